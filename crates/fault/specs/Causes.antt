@@ -1,0 +1,32 @@
+-- The number of each cause, and its words. Assumes nothing.
+use mathlib.Core.List.{List}
+use Prim.Native.Nat.{ℕ}
+use lib.Chars.{codes}
+use Rattle.fault.specs.declared.kinds.Cause.{Cause}
+use Rattle.fault.specs.declared.kinds.Cause.the-variants.{CatalogueFull, FieldCount, LinkMask, NoPage, HeadTooLarge, UndeclaredType, ObjectTooLong, BadLink, NotZero, PageClosed, WrongLength}
+
+abbrev pub number : Cause → ℕ
+number CatalogueFull = 2
+number FieldCount = 3
+number LinkMask = 4
+number NoPage = 10
+number HeadTooLarge = 13
+number UndeclaredType = 14
+number ObjectTooLong = 15
+number BadLink = 16
+number NotZero = 17
+number PageClosed = 20
+number WrongLength = 23
+
+abbrev pub wording : Cause → List ℕ
+wording CatalogueFull = codes "the catalogue has 32 types"
+wording FieldCount = codes "a type has 1 to 62 fields"
+wording LinkMask = codes "the link mask has a bit at or above the size"
+wording NoPage = codes "no such page"
+wording HeadTooLarge = codes "the head is above 63"
+wording UndeclaredType = codes "the header is not a declared type"
+wording ObjectTooLong = codes "the object runs past the used cells"
+wording BadLink = codes "the link is neither absent nor a long pointer"
+wording NotZero = codes "a cell after the used ones is not zero"
+wording PageClosed = codes "the page is closed to writing"
+wording WrongLength = codes "a page has 512 bytes"

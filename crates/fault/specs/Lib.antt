@@ -1,0 +1,4 @@
+pub mod Causes
+pub mod Faults
+pub mod Refusals
+pub mod Texts

@@ -1,0 +1,129 @@
+// What a refusal says: its cause, the layer that refused, and the places that it names.
+ghost use mathlib.Core.Path.{_≡_};
+ghost use Prim.Native.Nat.{ℕ};
+ghost use Rattle.fault.specs.Causes.{number, wording};
+ghost use Rattle.fault.specs.Faults.{nowhere, onPage, onCell, onField, fault, mark};
+ghost use Rattle.std.specs.Options.{Cases as BySome};
+ghost use Rattle.std.specs.declared.option.Option.the-variants.{Some};
+
+mod kinds;
+mod shows;
+
+pub use kinds::Cause;
+pub use kinds::Fault;
+pub use kinds::Place;
+pub use shows::FaultDisplay;
+
+impl Cause {
+    // The number by which a fault names the cause.
+    pub fn number(self) -> u32
+        ensures { λ r. ⌜ r ≡ number self ⌝ }
+    {
+        match self {
+            Cause::CatalogueFull => 2,
+            Cause::FieldCount => 3,
+            Cause::LinkMask => 4,
+            Cause::NoPage => 10,
+            Cause::HeadTooLarge => 13,
+            Cause::UndeclaredType => 14,
+            Cause::ObjectTooLong => 15,
+            Cause::BadLink => 16,
+            Cause::NotZero => 17,
+            Cause::PageClosed => 20,
+            Cause::WrongLength => 23,
+        }
+    }
+
+    // The cause that a number names, if it is one of ours.
+    pub fn numbered(n: u32) -> Option<Cause>
+        ensures finds { λ r. ⌜ ((c : Cause) → number c ≡ n → r ≡ Some c) ⌝ }
+        ensures only { λ r. ⌜ BySome r (Unit {0}) (λ c. number c ≡ n) ⌝ }
+    {
+        match n {
+            2 => Some(Cause::CatalogueFull),
+            3 => Some(Cause::FieldCount),
+            4 => Some(Cause::LinkMask),
+            10 => Some(Cause::NoPage),
+            13 => Some(Cause::HeadTooLarge),
+            14 => Some(Cause::UndeclaredType),
+            15 => Some(Cause::ObjectTooLong),
+            16 => Some(Cause::BadLink),
+            17 => Some(Cause::NotZero),
+            20 => Some(Cause::PageClosed),
+            23 => Some(Cause::WrongLength),
+            _ => None,
+        }
+    }
+
+    // The cause in words, for a person.
+    pub fn words(self) -> &'static str
+        ensures { λ r. ⌜ now r ≡ wording self ⌝ }
+    {
+        match self {
+            Cause::CatalogueFull => "the catalogue has 32 types",
+            Cause::FieldCount => "a type has 1 to 62 fields",
+            Cause::LinkMask => "the link mask has a bit at or above the size",
+            Cause::NoPage => "no such page",
+            Cause::HeadTooLarge => "the head is above 63",
+            Cause::UndeclaredType => "the header is not a declared type",
+            Cause::ObjectTooLong => "the object runs past the used cells",
+            Cause::BadLink => "the link is neither absent nor a long pointer",
+            Cause::NotZero => "a cell after the used ones is not zero",
+            Cause::PageClosed => "the page is closed to writing",
+            Cause::WrongLength => "a page has 512 bytes",
+        }
+    }
+}
+
+impl Place {
+    // No page, no cell, no field.
+    pub fn nowhere() -> Place
+        ensures { λ r. ⌜ r ≡ nowhere ⌝ }
+    {
+        Place::on_page(0)
+    }
+
+    pub fn on_page(page: u64) -> Place
+        ensures { λ r. ⌜ r ≡ onPage page ⌝ }
+    {
+        Place::on_cell(page, 64)
+    }
+
+    pub fn on_cell(page: u64, cell: u64) -> Place
+        ensures { λ r. ⌜ r ≡ onCell page cell ⌝ }
+    {
+        Place::on_field(page, cell, 63)
+    }
+
+    pub fn on_field(page: u64, cell: u64, field: u64) -> Place
+        ensures { λ r. ⌜ r ≡ onField page cell field ⌝ }
+    {
+        Place { page, cell, field }
+    }
+}
+
+impl Fault {
+    // A refusal at a place that no link led to.
+    pub fn new(cause: Cause, layer: u32, place: Place) -> Fault
+        ensures { λ r. ⌜ r ≡ fault cause layer place ⌝ }
+    {
+        Fault {
+            cause: cause.number(),
+            layer,
+            place,
+            link: Place::nowhere(),
+        }
+    }
+
+    // The refusal of an unreadable page, with the cause and layer of its mark.
+    pub fn marked(cause: u32, layer: u32, page: u64) -> Fault
+        ensures { λ r. ⌜ r ≡ mark cause layer page ⌝ }
+    {
+        Fault {
+            cause,
+            layer,
+            place: Place::on_page(page),
+            link: Place::nowhere(),
+        }
+    }
+}

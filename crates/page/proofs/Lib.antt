@@ -1,0 +1,4 @@
+pub mod Declares
+pub mod Steps
+pub mod Turns
+pub mod Whole
