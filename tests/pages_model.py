@@ -47,13 +47,70 @@ def objects(page, types):
     return found
 
 
-def inspection(data, types):
+def check(page):
+    return sum((i + 1) * b for i, b in enumerate(page))
+
+
+def image(data):
+    """The pages of a store, each its bytes or a mark (cause, layer)."""
+    return [data[512 * n:512 * n + 512] for n in range(min(1024, len(data) // 512))]
+
+
+def checked(below):
+    """The pages of the checks layer over these pages."""
+    q = len(below)
+    p = q - (q + 64) // 65
+    pages = []
+    for n in range(1, p + 1):
+        page, sums = below[n - 1], below[p + (n - 1) // 64]
+        for mark in (page, sums):
+            if isinstance(mark, tuple):
+                page = mark
+                break
+        else:
+            if cells(sums)[(n - 1) % 64] != check(page):
+                page = (12, 8)
+        pages.append(page)
+    return pages
+
+
+def split(data, first):
+    cut = 512 * min(first, len(data) // 512)
+    return (image(data[:cut]) + image(data[cut:]))[:1024]
+
+
+def sealed(data):
+    """The file with all checks of its pages put, and how many cells that changed."""
+    q = len(image(data))
+    p = q - (q + 64) // 65
+    out, changed = bytearray(data), 0
+    for n in range(1, p + 1):
+        at = 512 * (p + (n - 1) // 64) + 8 * ((n - 1) % 64)
+        want = struct.pack("<Q", check(data[512 * (n - 1):512 * n]))
+        if out[at:at + 8] != want:
+            out[at:at + 8] = want
+            changed += 1
+    return bytes(out), changed
+
+
+def seen(data, store):
+    if store == "checks":
+        return checked(image(data))
+    if store.startswith("split:"):
+        return split(data, int(store[6:]))
+    return image(data)
+
+
+def inspection(data, types, store="image"):
     """The lines of `balunsep inspect` but for remarks and the objects' own lines."""
-    pages = min(1024, len(data) // 512)
+    below = seen(data, store)
+    pages = len(below)
     lines, lawful, total, links = [], 0, 0, 0
-    for n in range(1, pages + 1):
-        page = data[512 * (n - 1):512 * n]
-        fault = first_fault(page, n, pages, types)
+    for n, page in enumerate(below, 1):
+        if isinstance(page, tuple):
+            fault = page + (n, 64, 63) + NONE
+        else:
+            fault = first_fault(page, n, pages, types)
         if fault:
             lines.append("page %d refused %s" % (n, " ".join(map(str, fault))))
             continue

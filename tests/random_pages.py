@@ -1,10 +1,10 @@
 #!/usr/bin/env python3
-"""Holds `balunsep inspect` to the model in pages_model.py on random and damaged page files.
+"""Holds `balunsep inspect` and `balunsep seal` to the model in pages_model.py on random and damaged page files.
 
     tests/random_pages.py PROGRAM [ROUNDS] [SEED]
 """
 import os, random, struct, subprocess, sys, tempfile
-from pages_model import STUDIO, inspection
+from pages_model import STUDIO, inspection, sealed
 
 
 def random_types(r):
@@ -46,7 +46,7 @@ def damaged(r, c):
 
 def one(r, program, folder):
     types = STUDIO if r.random() < 0.5 else random_types(r)
-    pages = r.choice([0, 1, 2, 8, 30] + ([1023, 1024, 1026] if r.random() < 0.05 else []))
+    pages = r.choice([0, 1, 2, 8, 30, 66, 67] + ([131, 1023, 1024, 1026] if r.random() < 0.05 else []))
     data = b""
     for _ in range(pages):
         c = lawful_page(r, types, min(pages, 1024))
@@ -60,7 +60,25 @@ def one(r, program, folder):
     file = os.path.join(folder, "pages")
     with open(file, "wb") as f:
         f.write(data)
+    store = r.choice(["image", "frozen", "checks", "checks", "split:%d" % r.choice([0, 1, 5, pages, pages + 3, 2000])])
+    if store == "checks" and r.random() < 0.7:
+        want, changed = sealed(data)
+        ran = subprocess.run([program, "seal", file], capture_output=True, text=True)
+        with open(file, "rb") as f:
+            data = f.read()
+        if ran.returncode or ran.stderr or ran.stdout != "changed %d cells\n" % changed or data != want:
+            print("seal differs:", ran.stdout, ran.stderr)
+            return False
+        if r.random() < 0.6 and data:
+            spoilt = bytearray(data)
+            for _ in range(r.randint(1, 3)):
+                spoilt[r.randrange(len(spoilt))] ^= 1 << r.randrange(8)
+            data = bytes(spoilt)
+            with open(file, "wb") as f:
+                f.write(data)
     words = [program, "inspect", file]
+    if store != "image" or r.random() < 0.5:
+        words += ["--store", store]
     if types is not STUDIO:
         catalogue = os.path.join(folder, "catalogue")
         with open(catalogue, "w") as f:
@@ -68,7 +86,7 @@ def one(r, program, folder):
         words += ["--catalogue", catalogue]
     ran = subprocess.run(words, capture_output=True, text=True)
     got = [line.split("  #")[0] for line in ran.stdout.splitlines() if not line.startswith("  ")]
-    want = inspection(data, types)
+    want = inspection(data, types, store)
     if ran.returncode or ran.stderr or got != want:
         print("differs; the file is kept as", file)
         for g, w in zip(got + [""] * len(want), want):

@@ -1,6 +1,7 @@
 // The program behind `balunsep`: its command line, its files and what it prints.
 mod catalogue;
 mod command;
+mod files;
 mod inspect;
 mod lines;
 mod names;

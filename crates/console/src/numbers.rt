@@ -31,7 +31,7 @@ pub impl fmt::Display for Mistake<'_> as MistakeDisplay {
     }
 }
 
-fn number(word: &str) -> Result<u64, Mistake<'_>>
+pub(crate) fn number(word: &str) -> Result<u64, Mistake<'_>>
     ensures { λ r. ⌜ ReadsUnsigned 64 10 (now (word .entry)) r ⌝ }
 {
     match word.parse::<u64>() {

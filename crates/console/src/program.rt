@@ -4,12 +4,20 @@ use crate::catalogue::declare_lines;
 use crate::command::Command;
 use crate::command::Inspect;
 use crate::command::MisuseDisplay;
+use crate::command::StoreKind;
 use crate::command::read_command;
+use crate::files::is_symlink;
+use crate::files::replace;
 use crate::inspect::Types;
 use crate::inspect::inspect_store;
+use crate::lines::Totals;
 use crate::lines::TotalsDisplay;
+use checks::Checks;
+use checks::ChecksStore;
 use page::DeclaringCatalogue;
 use page::studio_catalogue;
+use split::Split;
+use split::SplitStore;
 use std::alloc::Global;
 use std::fs;
 use std::io;
@@ -18,16 +26,19 @@ use std::io::Write;
 use std::rt::Files;
 use store::Frozen;
 use store::FrozenStore;
+use store::Image;
+use store::ImageStore;
 
 const HELP: &str = "balunsep: pages of a drawing, inspected
 
-  balunsep inspect [--catalogue FILE] PAGES
+  balunsep inspect [--catalogue FILE] [--store STORE] PAGES
+  balunsep seal PAGES
   balunsep --help
 
 PAGES is a file of pages of 512 bytes each, the first of them page 1. At most
 1,024 pages are taken; what stands past them is said and passed over.
 
-For each page there is one line,
+inspect prints for each page one line,
   page N lawful OBJECTS objects FREE free
 where FREE is 63 less the cells that the objects use, or
   page N refused CAUSE LAYER PAGE CELL FIELD PAGE CELL FIELD  # WORDS
@@ -43,14 +54,39 @@ where LINKS counts the links that are not absent, on lawful pages.
 line 'SIZE MASK' in decimal for each type, numbered from 1. Bit f of MASK says
 that field f, counted from 0, is a link.
 
-The exit status is 0 when the inspection was made, whatever it found, and 1
-when a file can't be read or the command line is wrong.";
+--store STORE says how the pages are seen:
+  image     the file's pages, as they are; this is the default
+  frozen    the same, closed to writing
+  checks    through the checks layer: of Q pages the last Q/65, rounded up,
+            hold the checks of the others
+  split:K   as two images, the first K pages in one and the rest in the other
+
+seal writes the checks of all pages of a file that is laid out for the checks
+layer, and prints how many cells it changed. The file is replaced whole.
+
+The exit status is 0 when the work was done, whatever an inspection found, and
+1 when a file can't be read or written or the command line is wrong.";
 
 // How the program ends where the streams hold: with status 0, or with 1 after it said why.
 #[derive(Debug, Clone, Copy, PartialEq, Eq)]
 pub enum Ending {
     Done,
     Failed,
+}
+
+// The bytes of a file; none after it was said why it can't be read.
+fn read_file<R: Files + Alloc<A = Global>, E: Write>(
+    rt: &R,
+    path: &str,
+    err: &mut E,
+) -> io::Result<Option<Vec<u8>>> {
+    match fs::read(rt, path) {
+        Ok(bytes) => Ok(Some(bytes)),
+        Err(e) => {
+            writeln!(err, "balunsep: cannot read {path}: {e}")?;
+            Ok(None)
+        }
+    }
 }
 
 fn file_types<R: Files + Alloc<A = Global>, E: Write>(
@@ -90,6 +126,42 @@ fn write_past<W: Write>(out: &mut W, length: usize) -> io::Result<()> {
     Ok(())
 }
 
+fn inspect_split<W: Write>(
+    bytes: &mut [u8],
+    first: u64,
+    types: &Types,
+    out: &mut W,
+) -> io::Result<Totals> {
+    let pages = bytes.len() / 512;
+    let first = first.min(pages as u64) as usize;
+    let (front, back) = bytes.split_at_mut(first * 512);
+    let mut store = Split::new(Image::new(front), Image::new(back));
+    inspect_store(&mut store, types, out)
+}
+
+fn inspect_bytes<W: Write>(
+    bytes: &mut [u8],
+    kind: StoreKind,
+    types: &Types,
+    out: &mut W,
+) -> io::Result<Totals> {
+    match kind {
+        StoreKind::Image => {
+            let mut store = Image::new(bytes);
+            inspect_store(&mut store, types, out)
+        }
+        StoreKind::Frozen => {
+            let mut store = Frozen::new(bytes);
+            inspect_store(&mut store, types, out)
+        }
+        StoreKind::Checks => {
+            let mut store = Checks::new(Image::new(bytes));
+            inspect_store(&mut store, types, out)
+        }
+        StoreKind::Split(first) => inspect_split(bytes, first, types, out),
+    }
+}
+
 fn inspect<R: Files + Alloc<A = Global>, O: Write + Drop, E: Write>(
     rt: &R,
     asked: Inspect<'_>,
@@ -106,18 +178,41 @@ fn inspect<R: Files + Alloc<A = Global>, O: Write + Drop, E: Write>(
             None => return Ok(Ending::Failed),
         },
     };
-    let path = asked.pages;
-    let bytes = match fs::read(rt, path) {
-        Ok(bytes) => bytes,
-        Err(e) => {
-            writeln!(err, "balunsep: cannot read {path}: {e}")?;
-            return Ok(Ending::Failed);
-        }
+    let Some(mut bytes) = read_file(rt, asked.pages, err)? else {
+        return Ok(Ending::Failed);
     };
-    let mut store = Frozen::new(bytes.as_slice());
-    let totals = inspect_store(&mut store, &types, out)?;
+    let totals = inspect_bytes(bytes.as_mut_slice(), asked.store, &types, out)?;
     write_past(out, bytes.len())?;
     writeln!(out, "{totals}")?;
+    out.flush()?;
+    Ok(Ending::Done)
+}
+
+// Writes the checks of a file that is laid out for the checks layer.
+fn seal<R: Files + Alloc<A = Global>, O: Write + Drop, E: Write>(
+    rt: &R,
+    path: &str,
+    out: &mut BufWriter<O>,
+    err: &mut E,
+) -> io::Result<Ending> {
+    let Some(mut bytes) = read_file(rt, path, err)? else {
+        return Ok(Ending::Failed);
+    };
+    let changed = Checks::new(Image::new(bytes.as_mut_slice())).seal();
+    if changed > 0 {
+        if is_symlink(rt, path) {
+            writeln!(
+                err,
+                "balunsep: {path} is a symbolic link; name the file itself"
+            )?;
+            return Ok(Ending::Failed);
+        }
+        if let Err(e) = replace(rt, rt.alloc(), path, bytes.as_slice()) {
+            writeln!(err, "balunsep: cannot write {path}: {e}")?;
+            return Ok(Ending::Failed);
+        }
+    }
+    writeln!(out, "changed {changed} cells")?;
     out.flush()?;
     Ok(Ending::Done)
 }
@@ -140,5 +235,6 @@ pub fn start<R: Files + Alloc<A = Global>, O: Write + Drop, E: Write>(
             Ok(Ending::Done)
         }
         Ok(Command::Inspect(asked)) => inspect(rt, asked, out, err),
+        Ok(Command::Seal(path)) => seal(rt, path, out, err),
     }
 }

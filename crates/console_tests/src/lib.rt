@@ -115,4 +115,81 @@ mod tests {
             Ending::Failed,
         )
     }
+
+    // One sheet at page 1, no check yet: over two pages the checks layer has one.
+    #[test]
+    fn seals_and_inspects_checks(rt: LibcRuntime) -> Result<(), Fail> {
+        let mut pages = [0u8; 1024];
+        pages[0] = 4;
+        pages[8] = 5;
+        fs::write(&rt, "checks.pages", pages)?;
+        let differs =
+            "page 1 refused 12 8 1 64 63 0 64 63  # the page differs from its check\ntotal 1 pages 0 lawful 0 objects 0 links\n";
+        expect(
+            &rt,
+            "inspect --store checks checks.pages",
+            differs,
+            "",
+            Ending::Done,
+        )?;
+        expect(
+            &rt,
+            "seal checks.pages",
+            "changed 1 cells\n",
+            "",
+            Ending::Done,
+        )?;
+        expect(
+            &rt,
+            "seal checks.pages",
+            "changed 0 cells\n",
+            "",
+            Ending::Done,
+        )?;
+        check(!fs::exists(&rt, "checks.pages.balunsep-new")?)?;
+        let sealed =
+            "page 1 lawful 1 objects 59 free\n  cell 1 type 5 sheet: number 0, first view absent, next sheet absent\ntotal 1 pages 1 lawful 1 objects 0 links\n";
+        expect(
+            &rt,
+            "inspect --store checks checks.pages",
+            sealed,
+            "",
+            Ending::Done,
+        )
+    }
+
+    #[test]
+    fn inspects_a_split(rt: LibcRuntime) -> Result<(), Fail> {
+        fs::write(&rt, "three.pages", [0u8; 1536])?;
+        let out =
+            "page 1 lawful 0 objects 63 free\npage 2 lawful 0 objects 63 free\npage 3 lawful 0 objects 63 free\ntotal 3 pages 3 lawful 0 objects 0 links\n";
+        expect(
+            &rt,
+            "inspect --store split:2 three.pages",
+            out,
+            "",
+            Ending::Done,
+        )?;
+        expect(
+            &rt,
+            "inspect --store split:9 three.pages",
+            out,
+            "",
+            Ending::Done,
+        )?;
+        expect(
+            &rt,
+            "inspect three.pages --store frozen",
+            out,
+            "",
+            Ending::Done,
+        )?;
+        expect(
+            &rt,
+            "inspect three.pages --store split:x",
+            "",
+            "balunsep: option '--store' does not take 'split:x'\n",
+            Ending::Failed,
+        )
+    }
 }

@@ -3,13 +3,14 @@ use mathlib.Core.List.{List}
 use Prim.Native.Nat.{ℕ}
 use lib.Chars.{codes}
 use Rattle.fault.specs.declared.kinds.Cause.{Cause}
-use Rattle.fault.specs.declared.kinds.Cause.the-variants.{CatalogueFull, FieldCount, LinkMask, NoPage, HeadTooLarge, UndeclaredType, ObjectTooLong, BadLink, NotZero, PageClosed, WrongLength}
+use Rattle.fault.specs.declared.kinds.Cause.the-variants.{CatalogueFull, FieldCount, LinkMask, NoPage, CheckDiffers, HeadTooLarge, UndeclaredType, ObjectTooLong, BadLink, NotZero, PageClosed, WrongLength}
 
 abbrev pub number : Cause → ℕ
 number CatalogueFull = 2
 number FieldCount = 3
 number LinkMask = 4
 number NoPage = 10
+number CheckDiffers = 12
 number HeadTooLarge = 13
 number UndeclaredType = 14
 number ObjectTooLong = 15
@@ -23,6 +24,7 @@ wording CatalogueFull = codes "the catalogue has 32 types"
 wording FieldCount = codes "a type has 1 to 62 fields"
 wording LinkMask = codes "the link mask has a bit at or above the size"
 wording NoPage = codes "no such page"
+wording CheckDiffers = codes "the page differs from its check"
 wording HeadTooLarge = codes "the head is above 63"
 wording UndeclaredType = codes "the header is not a declared type"
 wording ObjectTooLong = codes "the object runs past the used cells"

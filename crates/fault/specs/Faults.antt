@@ -24,3 +24,7 @@ fault c l at = record { cause = number c; layer = l; place = at; link = nowhere 
 -- the refusal of an unreadable page: a mark names the page alone, whatever its cause
 abbrev pub mark : ℕ → ℕ → ℕ → Fault
 mark c l p = record { cause = c; layer = l; place = onPage p; link = nowhere }
+
+-- the same fault told of another page
+abbrev pub moved : ℕ → Fault → Fault
+moved p e = record { cause = e .cause; layer = e .layer; place = onField p (e .place .cell) (e .place .field); link = e .link }

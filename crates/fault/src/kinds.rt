@@ -5,6 +5,7 @@ pub enum Cause {
     FieldCount,
     LinkMask,
     NoPage,
+    CheckDiffers,
     HeadTooLarge,
     UndeclaredType,
     ObjectTooLong,

@@ -2,7 +2,7 @@
 ghost use mathlib.Core.Path.{_≡_};
 ghost use Prim.Native.Nat.{ℕ};
 ghost use Rattle.fault.specs.Causes.{number, wording};
-ghost use Rattle.fault.specs.Faults.{nowhere, onPage, onCell, onField, fault, mark};
+ghost use Rattle.fault.specs.Faults.{nowhere, onPage, onCell, onField, fault, mark, moved};
 ghost use Rattle.std.specs.Options.{Cases as BySome};
 ghost use Rattle.std.specs.declared.option.Option.the-variants.{Some};
 
@@ -24,6 +24,7 @@ impl Cause {
             Cause::FieldCount => 3,
             Cause::LinkMask => 4,
             Cause::NoPage => 10,
+            Cause::CheckDiffers => 12,
             Cause::HeadTooLarge => 13,
             Cause::UndeclaredType => 14,
             Cause::ObjectTooLong => 15,
@@ -44,6 +45,7 @@ impl Cause {
             3 => Some(Cause::FieldCount),
             4 => Some(Cause::LinkMask),
             10 => Some(Cause::NoPage),
+            12 => Some(Cause::CheckDiffers),
             13 => Some(Cause::HeadTooLarge),
             14 => Some(Cause::UndeclaredType),
             15 => Some(Cause::ObjectTooLong),
@@ -64,6 +66,7 @@ impl Cause {
             Cause::FieldCount => "a type has 1 to 62 fields",
             Cause::LinkMask => "the link mask has a bit at or above the size",
             Cause::NoPage => "no such page",
+            Cause::CheckDiffers => "the page differs from its check",
             Cause::HeadTooLarge => "the head is above 63",
             Cause::UndeclaredType => "the header is not a declared type",
             Cause::ObjectTooLong => "the object runs past the used cells",
@@ -124,6 +127,16 @@ impl Fault {
             layer,
             place: Place::on_page(page),
             link: Place::nowhere(),
+        }
+    }
+
+    // The same refusal, told of another page.
+    pub fn on_page(self, page: u64) -> Fault
+        ensures { λ r. ⌜ r ≡ moved page self ⌝ }
+    {
+        Fault {
+            place: Place { page, ..self.place },
+            ..self
         }
     }
 }

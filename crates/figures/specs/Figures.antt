@@ -1,4 +1,4 @@
--- The worked figures, with the studio's catalogue and 8 pages. Assumes nothing.
+-- The worked figures: pages with the studio's catalogue and 8 pages, and the checks layer. Assumes nothing.
 use mathlib.Core.List.{List, [], _∷_}
 use mathlib.Core.Path.{_≡_}
 use Prim.Native.Nat.{ℕ}
@@ -11,6 +11,7 @@ use Rattle.fault.specs.declared.kinds.Fault.{Fault}
 use Rattle.fault.specs.declared.kinds.Place.{Place}
 use Rattle.fault.specs.Faults.{onCell, onField, nowhere}
 use Rattle.fault.specs.Refusals.{Checked}
+use Rattle.checks.specs.Layer.{check, checkedCount, checkPage, checkCell}
 use Rattle.page.specs.Cells.{cellAt, bytesOf}
 use Rattle.page.specs.Descriptors.{studioTypes}
 use Rattle.page.specs.Form.{examined}
@@ -47,11 +48,20 @@ pub data Figure : Type 0 where
   judged : Cells → Checked (Unit {0}) → Figure
   -- it has objects of these types
   has : Cells → List ℕ → Figure
+  -- a page with only this byte, at this place, has this check
+  weighs : ℕ → ℕ → ℕ → Figure
+  -- over so many pages the checks layer has so many
+  leaves : ℕ → ℕ → Figure
+  -- over so many pages, the check of this page is in this page below, in this cell
+  stands : ℕ → ℕ → ℕ → ℕ → Figure
 
 abbrev pub Holds : Figure → Type 0
 Holds (names x l) = linkOf 8 x ≡ l
 Holds (judged cs r) = examined 8 1 (pageWith cs) studioTypes ≡ r
 Holds (has cs ts) = kinds (partsOf studioTypes 8 1 (pageWith cs) .parts) ≡ ts
+Holds (weighs b i c) = check (set (replicate 512 0) i b) ≡ c
+Holds (leaves q p) = checkedCount q ≡ p
+Holds (stands q n m c) = (checkPage q n ≡ m) × (checkCell n ≡ c)
 
 abbrev pub Each : List Figure → Type 0
 Each [] = Unit {0}
@@ -74,6 +84,14 @@ table =
     ∷ judged ((9, 1) ∷ []) (refused 17 (onCell 1 9))
     ∷ judged [] (Ok tt)
     ∷ has [] []
+    ∷ weighs 1 0 1
+    ∷ weighs 255 511 130560
+    ∷ leaves 1 0
+    ∷ leaves 2 1
+    ∷ leaves 65 64
+    ∷ leaves 66 64
+    ∷ leaves 67 65
+    ∷ stands 66 64 65 63
     ∷ []
 
 abbrev pub FiguresHold : Type 0

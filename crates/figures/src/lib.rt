@@ -1,4 +1,4 @@
-// The worked figures of the page form, proved in one table about the definitions that every contract cites.
+// The worked figures, proved in one table about the definitions that every contract cites.
 ghost use mathlib.Core.Path.{_≡_};
 ghost use lib.ListN.{length};
 ghost use Rattle.figures.specs.Figures.{table, FiguresHold};
@@ -13,5 +13,5 @@ pub fn figures_hold() -> u64
     ensures hold { λ _. ⌜ FiguresHold ⌝ }
 {
     table_holds();
-    15
+    23
 }

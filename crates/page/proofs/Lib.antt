@@ -1,4 +1,5 @@
 pub mod Declares
+pub mod Rounds
 pub mod Steps
 pub mod Turns
 pub mod Whole

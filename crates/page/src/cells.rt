@@ -2,7 +2,7 @@
 ghost use mathlib.Core.Path.{_≡_};
 ghost use Prim.Native.Nat.{_+_, _*_, _≤_};
 ghost use lib.ListN.{length};
-ghost use Rattle.page.specs.Cells.{cellAt, cellIn};
+ghost use Rattle.page.specs.Cells.{cellAt, cellIn, hasCell, putAt, putCell};
 
 pub(crate) fn cell_at(bytes: &[u8], i: u64) -> u64
     requires { ⌜ 8 * i + 8 ≤ length (now bytes) ⌝ }
@@ -29,4 +29,24 @@ pub fn cell(bytes: &[u8], i: u64) -> Option<u64>
         return None;
     }
     Some(cell_at(bytes, i))
+}
+
+fn put_at(bytes: &mut [u8], i: u64, number: u64)
+    requires { ⌜ 8 * i + 8 ≤ length (now bytes) ⌝ }
+    ensures { λ _. ⌜ now (bytes .exit) ≡ putAt (now (bytes .entry)) i number ⌝ }
+{
+    let a = 8 * i as usize;
+    bytes[a..a + 8].copy_from_slice(&number.to_le_bytes());
+}
+
+// Puts the number into cell `i` and answers true, if the bytes have all of it.
+pub fn put_cell(bytes: &mut [u8], i: u64, number: u64) -> bool
+    ensures value { λ r. ⌜ r ≡ hasCell (now (bytes .entry)) i ⌝ }
+    ensures after { λ _. ⌜ now (bytes .exit) ≡ putCell (now (bytes .entry)) i number ⌝ }
+{
+    if bytes.len() as u64 / 8 <= i {
+        return false;
+    }
+    put_at(bytes, i, number);
+    true
 }

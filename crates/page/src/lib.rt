@@ -10,6 +10,7 @@ mod studio;
 pub use catalogue::ClosedCatalogue;
 pub use catalogue::DeclaringCatalogue;
 pub use cells::cell;
+pub use cells::put_cell;
 pub use descriptor::Descriptor;
 pub use form::first_fault;
 pub use link::Link;

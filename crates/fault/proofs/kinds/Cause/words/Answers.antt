@@ -5,29 +5,14 @@ use Rattle.fault.proofs.kinds.Cause.words.Needs as need
 pub returns-in-CatalogueFull : need.returns-in-CatalogueFull
 returns-in-CatalogueFull c = sym (ap wording (c .in-CatalogueFull .is))
 
-pub returns-in-FieldCount : need.returns-in-FieldCount
-returns-in-FieldCount c = sym (ap wording (c .in-FieldCount .is))
-
-pub returns-in-LinkMask : need.returns-in-LinkMask
-returns-in-LinkMask c = sym (ap wording (c .in-LinkMask .is))
-
 pub returns-in-NoPage : need.returns-in-NoPage
 returns-in-NoPage c = sym (ap wording (c .in-NoPage .is))
 
-pub returns-in-HeadTooLarge : need.returns-in-HeadTooLarge
-returns-in-HeadTooLarge c = sym (ap wording (c .in-HeadTooLarge .is))
-
-pub returns-in-UndeclaredType : need.returns-in-UndeclaredType
-returns-in-UndeclaredType c = sym (ap wording (c .in-UndeclaredType .is))
-
-pub returns-in-ObjectTooLong : need.returns-in-ObjectTooLong
-returns-in-ObjectTooLong c = sym (ap wording (c .in-ObjectTooLong .is))
+pub returns-in-CheckDiffers : need.returns-in-CheckDiffers
+returns-in-CheckDiffers c = sym (ap wording (c .in-CheckDiffers .is))
 
 pub returns-in-BadLink : need.returns-in-BadLink
 returns-in-BadLink c = sym (ap wording (c .in-BadLink .is))
-
-pub returns-in-NotZero : need.returns-in-NotZero
-returns-in-NotZero c = sym (ap wording (c .in-NotZero .is))
 
 pub returns-in-PageClosed : need.returns-in-PageClosed
 returns-in-PageClosed c = sym (ap wording (c .in-PageClosed .is))

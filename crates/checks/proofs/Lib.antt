@@ -1,0 +1,4 @@
+pub mod Pages
+pub mod Pairs
+pub mod Parts
+pub mod Seals

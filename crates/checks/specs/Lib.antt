@@ -1,0 +1,4 @@
+pub mod Layer
+pub mod Laws
+pub mod Calls
+pub mod Seals
