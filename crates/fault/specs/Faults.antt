@@ -28,3 +28,7 @@ mark c l p = record { cause = c; layer = l; place = onPage p; link = nowhere }
 -- the same fault told of another page
 abbrev pub moved : ℕ → Fault → Fault
 moved p e = record { cause = e .cause; layer = e .layer; place = onField p (e .place .cell) (e .place .field); link = e .link }
+
+-- the same fault, come there by a link
+abbrev pub via : Place → Fault → Fault
+via l e = record { cause = e .cause; layer = e .layer; place = e .place; link = l }

@@ -1,9 +1,15 @@
 // Why a call is refused. A fault names a cause by its number.
 #[derive(Clone, Copy)]
 pub enum Cause {
+    BadPlan,
     CatalogueFull,
     FieldCount,
     LinkMask,
+    NoCursor,
+    EmptyCursor,
+    NoField,
+    WrongKind,
+    AbsentLink,
     NoPage,
     CheckDiffers,
     HeadTooLarge,
@@ -11,7 +17,11 @@ pub enum Cause {
     ObjectTooLong,
     BadLink,
     NotZero,
+    NoAddresses,
+    NoObject,
     PageClosed,
+    NoRoom,
+    NoType,
     WrongLength,
 }
 

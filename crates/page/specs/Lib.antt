@@ -4,3 +4,4 @@ pub mod Form
 pub mod Links
 pub mod Parts
 pub mod Types
+pub mod Walks

@@ -1,0 +1,10 @@
+pub mod Grants
+pub mod Opens
+pub mod Runs
+pub mod Cells
+pub mod Denies
+pub mod Eighteen
+pub mod Starts
+pub mod Fields
+pub mod Adding
+pub mod Kept

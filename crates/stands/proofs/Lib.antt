@@ -1,0 +1,7 @@
+pub mod Pages
+pub mod Cells
+pub mod Layers
+pub mod Stands
+pub mod Edits
+pub mod Courses
+pub mod Slots
