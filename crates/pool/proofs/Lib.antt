@@ -1,0 +1,6 @@
+pub mod Frames
+pub mod Bringing
+pub mod Opens
+pub mod Enters
+pub mod Finds
+pub mod Starts
