@@ -1,4 +1,6 @@
 // The program's process: its arguments, streams and status.
+#![tactic(auto)]
+
 use console::{Ending, start};
 use std::io::BufWriter;
 use std::{env, io};

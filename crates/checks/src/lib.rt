@@ -1,4 +1,6 @@
 // The checks layer: a store that keeps a check of each page, and reads no page that differs from its check.
+#![tactic(auto)]
+
 ghost use Rattle.std.specs.Prelude.{◌≡◌};
 
 mod calls;

@@ -1,4 +1,6 @@
 // The program behind `balunsep`: its command line, its files and what it prints.
+#![tactic(auto)]
+
 mod catalogue;
 mod command;
 mod files;

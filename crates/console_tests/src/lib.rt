@@ -1,4 +1,6 @@
 // The whole program, run over files and memory: the gate runs a program only once, and only to status 0.
+#![tactic(auto)]
+
 #[cfg(test)]
 mod tests {
     use console::{Ending, start};

@@ -1,4 +1,6 @@
 // What a refusal says: its cause, the layer that refused, and the places that it names.
+#![tactic(auto)]
+
 ghost use Rattle.std.specs.Prelude.{◌≡◌, ℕ, IfSome, Some};
 ghost use Rattle.fault.specs.Causes.{number, wording};
 ghost use Rattle.fault.specs.Faults.{nowhere, on_page, on_cell, on_field, fault, mark, moved, via};

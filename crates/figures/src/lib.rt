@@ -1,4 +1,6 @@
 // The worked figures, proved in one table about the definitions that every contract cites.
+#![tactic(auto)]
+
 ghost use Rattle.std.specs.Prelude.{◌≡◌, length};
 ghost use Rattle.figures.specs.Figures.{table, FiguresHold};
 

@@ -1,4 +1,6 @@
 // Pages in frames: cells in place of bytes, and addresses in place of long pointers.
+#![tactic(auto)]
+
 mod bytes;
 mod frame;
 mod laws;

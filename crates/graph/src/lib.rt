@@ -1,4 +1,6 @@
 // The graph of objects that a store's pages hold: its calls, their answers, and what holds over runs.
+#![tactic(auto)]
+
 mod calls;
 mod laws;
 

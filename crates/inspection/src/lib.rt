@@ -1,4 +1,6 @@
 // Inspection: whether a page is lawful, what it holds, and where its first fault stands.
+#![tactic(auto)]
+
 mod inspect;
 mod survey;
 

@@ -1,4 +1,6 @@
 // A pile of layers, built and run: a split volume of two checks layers over images.
+#![tactic(auto)]
+
 #[cfg(test)]
 mod tests {
     use checks::Checks;

@@ -1,4 +1,6 @@
 // The page form: type descriptors and catalogues, long pointers, a page's first fault, and a reader of its parts.
+#![tactic(auto)]
+
 mod catalogue;
 mod cells;
 mod descriptor;

@@ -1,4 +1,6 @@
 // Sets of the pages 1 to 1024.
+#![tactic(auto)]
+
 ghost use Rattle.std.specs.Prelude.{◌≡◌, ℕ, ◌+◌, ◌-◌, ◌<◌, ◌≤◌, true, false, not, ◌&&◌, ◌||◌, length, ◌≢◌};
 ghost use Rattle.pageset.specs.Sets.{holds, tally, Words};
 

@@ -1,4 +1,6 @@
 // Which frame a page service gives up when it needs room.
+#![tactic(auto)]
+
 ghost use Rattle.std.specs.Prelude.{◌≡◌, ℕ, Bool, List};
 ghost use Rattle.policy.specs.Answers.{Answer};
 

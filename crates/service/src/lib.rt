@@ -1,4 +1,6 @@
 // The service: pages in frames over a store, walked and read through sixteen cursors.
+#![tactic(auto)]
+
 mod plan;
 mod service;
 

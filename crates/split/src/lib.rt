@@ -1,4 +1,6 @@
 // Two stores as one: the pages of the second after those of the first, 1,024 at most.
+#![tactic(auto)]
+
 ghost use Rattle.std.specs.Prelude.{◌≡◌, ◌+◌, min, length};
 ghost use Rattle.store.specs.Pages.{both};
 ghost use Rattle.store.specs.Rules.{open_at, read_answer, read_buffer, write_answer, write_pages};

@@ -1,4 +1,6 @@
 // A store of pages: what can be read and written page by page.
+#![tactic(auto)]
+
 ghost use Rattle.std.specs.Prelude.{◌≡◌, ℕ, List, length};
 ghost use Rattle.store.specs.Pages.{Page, Lawful, Kept, nothing};
 ghost use Rattle.store.specs.Rules.{open_at, read_answer, read_buffer, write_answer, write_pages};
