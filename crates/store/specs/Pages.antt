@@ -48,8 +48,9 @@ abbrev pub past : List ℕ → List ℕ
 past bs = drop (page_count bs * 512) bs
 
 -- what a store keeps beside its pages: the loan that it stands on, by the ghost name of the
--- reference, with the bytes past its last page; and both of two stores
+-- reference, a shared one by where it points, with the bytes past its last page; and both of two stores
 pub data Kept : Type 0 where
   nothing : Kept
   loan : ℕ → List ℕ → Kept
+  shared : ℕ → ℕ → List ℕ → Kept
   both : Kept → Kept → Kept

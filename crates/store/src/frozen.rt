@@ -1,5 +1,5 @@
 ghost use Rattle.std.specs.Prelude.{◌≡◌, false};
-ghost use Rattle.store.specs.Pages.{paged, past, loan};
+ghost use Rattle.store.specs.Pages.{paged, past, shared};
 ghost use Rattle.store.specs.Laws.{paged_lawful};
 
 use crate::Store;
@@ -27,7 +27,7 @@ impl<'a> Store for Frozen<'a> {
 
     ghost pages = { λ s. paged false s.bytes.now };
 
-    ghost kept = { λ s. loan s.bytes.ghost_name (past s.bytes.now) };
+    ghost kept = { λ s. shared s.bytes.ref_ptr.0 s.bytes.ref_ptr.1 (past s.bytes.now) };
 
     ghost laws = { paged_lawful false (λ s. s.bytes.now) };
 

@@ -4,5 +4,5 @@ use Rattle.store.proofs.row.has_page.Goals as goal
 
 pub returns-then-n-gt0 : goal.returns-then-n-gt0
 returns-then-n-gt0 c = λ w.
-    let e = ap (leb c.args.n) c.pages-in.ensures ∙ sym (page_upto w c.args.bytes.now c.args.n c.if-n-gt0.true) in
+    let e = ap (leb c.args.n) c.pages_in.ensures ∙ sym (page_upto w c.args.bytes.now c.args.n c.if-n-gt0.true) in
     search rules

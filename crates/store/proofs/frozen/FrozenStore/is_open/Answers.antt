@@ -3,4 +3,4 @@ use Rattle.store.proofs.Cuts.{open_frozen}
 use Rattle.store.proofs.frozen.FrozenStore.is_open.Goals as goal
 
 pub returns : goal.returns
-returns c = let e = open_frozen c.args.self.now.bytes.now c.args.-n in record { value = search rules; same = search rules; kept = search rules }
+returns c = let e = open_frozen c.args.self.now.bytes.now c.args._n in record { value = search rules; same = search rules; kept = search rules }

@@ -6,14 +6,14 @@ use Rattle.store.proofs.Cuts.{open_frozen}
 use Rattle.store.proofs.Steps.{start_granted, write_refused, write_closed, kept_refused, kept_closed}
 use Rattle.store.proofs.frozen.FrozenStore.write.Goals as goal
 
-pub returns-in-err-start-of : goal.returns-in-err-start-of
-returns-in-err-start-of c =
-    let p = err_from_is_err_and c.from-residual.result c.from-residual.ensures.1 in
+pub returns-in_err-start_of : goal.returns-in_err-start_of
+returns-in_err-start_of c =
+    let p = err_from_is_err_and c.from_residual.result c.from_residual.ensures.1 in
     let n : ℕ = c.args.n in
     let bs : List ℕ = c.args.self.now.bytes.now in
     let ys : List ℕ = c.args.buf.now in
-    let e = c.in-err-start-of.field-0.0 in
-    let h : start_answer 6 (paged false bs) n (length ys) ≡ Err e = sym (c.in-err-start-of.ensures.value false) in
+    let e = c.in_err-start_of.field-0.0 in
+    let h : start_answer 6 (paged false bs) n (length ys) ≡ Err e = sym (c.in_err-start_of.ensures.value false) in
     record {
       value = p.1 ∙ ap Err p.2 ∙ sym (write_refused 6 (paged false bs) n (length ys) e h);
       after = sym (kept_refused 6 (paged false bs) n ys e h);
@@ -25,6 +25,6 @@ returns c =
     let n : ℕ = c.args.n in
     let bs : List ℕ = c.args.self.now.bytes.now in
     let ys : List ℕ = c.args.buf.now in
-    let g = start_granted 6 (paged false bs) n (length ys) c.in-ok-start-of.field-0 (sym (c.in-ok-start-of.ensures.value false)) in
+    let g = start_granted 6 (paged false bs) n (length ys) c.in_ok-start_of.field-0 (sym (c.in_ok-start_of.ensures.value false)) in
     let w = write_closed 6 (paged false bs) n (length ys) g.0 g.1 (open_frozen bs n) in
     record { value = search rules; after = sym (kept_closed (paged false bs) n ys (open_frozen bs n)); kept = search rules }

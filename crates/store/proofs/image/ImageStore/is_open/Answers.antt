@@ -7,5 +7,5 @@ pub returns : goal.returns
 returns c =
     let n = c.args.n in
     let e = open_image c.args.self.now.bytes.now n in
-    let f = c.has-page.ensures true ∙ ap (λ bs. is_page (paged true bs) n) c.bytes.ensures in
+    let f = c.has_page.ensures true ∙ ap (λ bs. is_page (paged true bs) n) c.bytes.ensures in
     record { value = search rules; same = search rules; kept = search rules }
