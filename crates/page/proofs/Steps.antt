@@ -6,7 +6,7 @@ use Rattle.fault.specs.Faults.{on_cell, on_field, fault}
 use Rattle.fault.specs.Refusals.{Checked, ◌>>=◌, ◌>>◌, ◌else◌}
 use Rattle.page.specs.Cells.{cell_at}
 use Rattle.page.specs.Descriptors.{linked}
-use Rattle.page.specs.Form.{head_of, field_at, links_fault, unused_fault, object_at, objects_fault}
+use Rattle.page.specs.Form.{field_at, links_fault, unused_fault, object_at, objects_fault}
 use Rattle.page.specs.Links.{is_link}
 use Rattle.page.specs.declared.descriptor.Descriptor.{Descriptor}
 

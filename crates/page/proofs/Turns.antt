@@ -1,9 +1,9 @@
 -- One step of a reader. Assumes nothing.
-use Rattle.std.proofs.Common.{◌≡◌, ℕ, zero, suc, ◌+◌, ◌-◌, ◌*◌, ◌<◌, ◌≤◌, List, length, take, drop, Ok, Err, sym, refl, ap, ◌∙◌, arith}
+use Rattle.std.proofs.Common.{◌≡◌, ℕ, zero, suc, ◌+◌, ◌-◌, ◌*◌, ◌<◌, ◌≤◌, List, length, take, drop, Ok, Err, sym, ap, ◌∙◌, arith}
 use Rattle.std.proofs.lemmas.Slice.{between_to_end}
 use Rattle.std.proofs.lemmas.Bool.{le-leb}
 use Rattle.fault.specs.declared.kinds.Fault.{Fault}
-use Rattle.page.specs.Form.{head_of, object_at, unused_fault}
+use Rattle.page.specs.Form.{object_at, unused_fault}
 use Rattle.page.specs.Parts.{Remaining, object, unused, before, only, nothing, cell_bytes, last_part, object_part, head_part, parts_from}
 use Rattle.page.specs.Types.{by_stage}
 use Rattle.page.specs.declared.descriptor.Descriptor.{Descriptor}

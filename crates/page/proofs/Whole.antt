@@ -1,5 +1,5 @@
 -- A reader ends as the page's first fault says, and its parts are the page. Assumes nothing.
-use Rattle.std.proofs.Common.{◌≡◌, ℕ, zero, suc, ◌+◌, ◌-◌, ◌*◌, ◌<◌, ◌≤◌, Bool, true, false, cond, eqb, leb, List, [], ◌∷◌, ◌++◌, length, take, drop, Some, None, Ok, Err, sym, refl, ap, ◌∙◌, append-nil, arith, take-append-drop}
+use Rattle.std.proofs.Common.{◌≡◌, ℕ, zero, suc, ◌+◌, ◌-◌, ◌*◌, ◌≤◌, Bool, true, false, cond, eqb, leb, List, ◌++◌, length, drop, Ok, Err, sym, refl, ap, ◌∙◌, append-nil, arith, take-append-drop}
 use Rattle.std.specs.Result.{result_err}
 use Rattle.std.proofs.lemmas.List.{drop-drop}
 use Rattle.std.proofs.lemmas.Bool.{cond_both, leb-true}
@@ -8,7 +8,7 @@ use Rattle.fault.specs.declared.kinds.Fault.{Fault}
 use Rattle.fault.specs.Faults.{nowhere, on_cell, fault}
 use Rattle.fault.specs.Refusals.{Checked, ◌>>=◌, ◌>>◌, ◌else◌}
 use Rattle.page.specs.Form.{head_of, type_at, object_at, objects_fault, unused_fault, first_fault, examined}
-use Rattle.page.specs.Parts.{Part, Remaining, only, cell_bytes, last_part, object_part, head_part, parts_from, parts_of, reader_of, all_bytes, Faithful}
+use Rattle.page.specs.Parts.{Remaining, only, cell_bytes, last_part, object_part, parts_from, parts_of, reader_of, all_bytes, Faithful}
 use Rattle.page.specs.declared.descriptor.Descriptor.{Descriptor}
 
 -- what is left is fault-free up to the fault f, and then its bytes are ys

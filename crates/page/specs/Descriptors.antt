@@ -1,8 +1,8 @@
 -- Type descriptors, and what it is to declare one. Assumes nothing.
-use Rattle.std.specs.Prelude.{◌≡◌, ℕ, ◌+◌, ◌-◌, ◌/◌, ◌%◌, ◌^◌, ◌<◌, ◌≤◌, Bool, cond, ◌&&◌, List, [], ◌∷◌, ◌++◌, length, Some, None, Ok, Err, Option, ◌==◌, nat_le, nat_lt, slice_index_or}
+use Rattle.std.specs.Prelude.{◌≡◌, ℕ, ◌+◌, ◌-◌, ◌/◌, ◌%◌, ◌^◌, ◌<◌, ◌≤◌, Bool, cond, ◌&&◌, List, [], ◌∷◌, ◌++◌, length, Some, None, Ok, Option, ◌==◌, nat_le, nat_lt, slice_index_or}
 use Rattle.fault.specs.declared.kinds.Cause.TheVariants.{CatalogueFull, FieldCount, LinkMask}
 use Rattle.fault.specs.Faults.{nowhere, fault}
-use Rattle.fault.specs.Refusals.{Checked, ◌>>=◌, ◌>>◌, ◌else◌, if_granted}
+use Rattle.fault.specs.Refusals.{Checked, ◌>>◌, ◌else◌, if_granted}
 use Rattle.page.specs.declared.descriptor.Descriptor.{Descriptor}
 
 -- a type of no fields, which no catalogue has

@@ -1,5 +1,5 @@
 -- The form of a page, and the first fault of one that has another. Assumes nothing.
-use Rattle.std.specs.Prelude.{ℕ, zero, suc, ◌+◌, ◌-◌, Bool, not, ◌||◌, List, length, Ok, Err, ◌==◌, nat_le}
+use Rattle.std.specs.Prelude.{ℕ, zero, suc, ◌+◌, ◌-◌, not, ◌||◌, List, length, Ok, ◌==◌, nat_le}
 use Rattle.fault.specs.declared.kinds.Cause.TheVariants.{HeadTooLarge, UndeclaredType, ObjectTooLong, BadLink, NotZero, WrongLength}
 use Rattle.fault.specs.Faults.{nowhere, on_cell, on_field, fault}
 use Rattle.fault.specs.Refusals.{Checked, ◌>>=◌, ◌>>◌, ◌else◌}

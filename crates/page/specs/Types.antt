@@ -1,6 +1,5 @@
 -- What catalogues and readers stand for. Assumes nothing.
-use Rattle.std.specs.Prelude.{ℕ, ◌+◌, ◌-◌, List, take, Some, None, Ok, Err, Option, Result}
-use Rattle.fault.specs.declared.kinds.Fault.{Fault}
+use Rattle.std.specs.Prelude.{◌+◌, ◌-◌, List, take, Some, None, Ok, Err, Option}
 use Rattle.fault.specs.Refusals.{Checked}
 use Rattle.page.specs.Parts as parts
 use Rattle.page.specs.Parts.{object, unused, Remaining, nothing, only, head_part, parts_from}

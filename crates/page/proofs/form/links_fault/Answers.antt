@@ -3,8 +3,8 @@ use Rattle.std.proofs.lemmas.Bool.Decides.{nat_tests}
 use Rattle.page.proofs.Steps.{links_more}
 use Rattle.page.proofs.form.links_fault.Goals as goal
 
-pub returns-then-not-is-link : goal.returns-then-not-is-link
-returns-then-not-is-link c =
+pub returns-then-not-is_link : goal.returns-then-not-is_link
+returns-then-not-is_link c =
     let e = links_more c.args.pages c.args.page c.args.bytes.now c.args.descriptor c.args.cell c.loop-field.field c.args.descriptor.size (omega arith) in
     grind (arith, nat_tests)
 

@@ -1,6 +1,6 @@
-use Rattle.std.proofs.Common.{◌≡◌, length, sym, ap, ◌∙◌, arith}
+use Rattle.std.proofs.Common.{ap, ◌∙◌, arith}
 use Rattle.std.proofs.lemmas.List.{take_all}
-use Rattle.page.specs.Descriptors.{no_type, declare_types, declare_all}
+use Rattle.page.specs.Descriptors.{declare_all}
 use Rattle.page.specs.Types.{types_so_far}
 use Rattle.page.proofs.Declares.{declare_more}
 use Rattle.page.proofs.studio.declare_all.Goals as goal

@@ -11,16 +11,16 @@ returns-in-Ok c =
     let b = bytes_rest r.bytes.now r.cell in
     record { part = ap (λ x. Some (Ok (unused r.cell x))) b ∙ sym (ap next_part e); after = sym (ap after_next e) }
 
-pub returns-in-Ok-object-at : goal.returns-in-Ok-object-at
-returns-in-Ok-object-at c =
+pub returns-in-Ok-object_at : goal.returns-in-Ok-object_at
+returns-in-Ok-object_at c =
     let r = c.args.self.now in
-    let told = c.in-Ok-object-at.ensures in
-    let e = read_object (types r.catalogue.now) r.pages r.page r.bytes.now r.used r.stage c.requires (omega arith) r.cell c.in-Ok-object-at.size (omega arith) (omega (arith, told.within)) told.value in
-    let b = bytes_of r.bytes.now r.cell c.in-Ok-object-at.size in
+    let told = c.in-Ok-object_at.ensures in
+    let e = read_object (types r.catalogue.now) r.pages r.page r.bytes.now r.used r.stage c.requires (omega arith) r.cell c.in-Ok-object_at.size (omega arith) (omega (arith, told.within)) told.value in
+    let b = bytes_of r.bytes.now r.cell c.in-Ok-object_at.size in
     record { part = ap (λ x. Some (Ok (object r.cell x))) b ∙ sym (ap next_part e); after = sym (ap after_next e) }
 
-pub returns-in-Err-object-at : goal.returns-in-Err-object-at
-returns-in-Err-object-at c =
+pub returns-in-Err-object_at : goal.returns-in-Err-object_at
+returns-in-Err-object_at c =
     let r = c.args.self.now in
-    let e = read_fault (types r.catalogue.now) r.pages r.page r.bytes.now r.used r.stage c.requires (omega arith) r.cell c.in-Err-object-at.fault (omega arith) c.in-Err-object-at.ensures.value in
+    let e = read_fault (types r.catalogue.now) r.pages r.page r.bytes.now r.used r.stage c.requires (omega arith) r.cell c.in-Err-object_at.fault (omega arith) c.in-Err-object_at.ensures.value in
     record { part = sym (ap next_part e); after = sym (ap after_next e) }

@@ -20,7 +20,7 @@ pub returns : goal.returns
 returns c =
     let bs = c.args.bytes.now in
     let ts = types c.args.catalogue.now in
-    let u = c.cell-at.result in
+    let u = c.cell_at.result in
     let l : Remaining = head_part c.args.page u (parts_from ts c.args.pages c.args.page bs u 1 (u + 1 - 1) 0) in
     let e : Ok l ≡ reader_of ts c.args.pages c.args.page bs = search rules in
     record { parts = e; faithful = law ts c.args.pages c.args.page bs (Ok l) e }
