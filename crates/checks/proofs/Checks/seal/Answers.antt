@@ -16,18 +16,18 @@ pub loop-n-preserved : goal.loop-n-preserved
 loop-n-preserved g c =
     let ps : List Page = g.S.Store.pages c.count-below.new.self in
     let ws : List Page = g.S.Store.pages c.loop-n.self.lower in
-    let vs : List Page = g.S.Store.pages c.seal-page-changed.new.self.lower in
+    let vs : List Page = g.S.Store.pages c.seal_page-changed.new.self.lower in
     let n : ℕ = c.loop-n.n in
     let below : c.count-below.result ≡ length ps = c.count-below.ensures.value ∙ ap length (sym c.count-below.ensures.same) in
-    let end = c.checked-count-n-end.ensures ∙ ap checked_count below in
+    let end = c.checked_count-n-end.ensures ∙ ap checked_count below in
     let z : 0 < n = omega arith in
     let l : n ≤ checked_count (length ps) = omega (arith, end) in
     let t = turned g.S.Store.layer ps ws n (check_page c.count-below.result n) z l (ap (λ q. check_page q n) below) c.loop-n.invariant.2 (g.S.Store.laws.whole c.loop-n.self.lower)
-    vs c.seal-page-changed.result c.seal-page-changed.ensures.after c.seal-page-changed.ensures.value c.seal-page-changed.ensures.small in
+    vs c.seal_page-changed.result c.seal_page-changed.ensures.after c.seal_page-changed.ensures.value c.seal_page-changed.ensures.small in
     let k : ℕ = checked_count (length ps) + 1 - (n + 1) in
     let left : checked_count (length ps) + 1 - n ≡ suc k = omega arith in
     let one = at_most_one (stale ps n) in (
-      (c.seal-page-changed.ensures.kept ∙ c.loop-n.invariant.0.0, omega (arith, c.loop-n.invariant.0.1, t.count, one)),
+      (c.seal_page-changed.ensures.kept ∙ c.loop-n.invariant.0.0, omega (arith, c.loop-n.invariant.0.1, t.count, one)),
       (omega (arith, c.loop-n.invariant.1.0, t.count, stale_more ps n (checked_count (length ps) + 1 - n) k left), seal_more ws vs n (checked_count (length ps) + 1 - n) k left t.page ∙ c.loop-n.invariant.1.1),
       t.more,
     )
@@ -39,7 +39,7 @@ returns g c =
     let n : ℕ = c.loop-n.n in
     let same = c.count-below.ensures.same in
     let below : c.count-below.result ≡ length ps = c.count-below.ensures.value ∙ ap length (sym same) in
-    let count = c.checked-count-n-end.ensures ∙ ap checked_count below in
+    let count = c.checked_count-n-end.ensures ∙ ap checked_count below in
     let end : n ≡ checked_count (length ps) + 1 = omega (arith, count) in
     let none : checked_count (length ps) + 1 - n ≡ 0 = omega arith in
     let done : Sealed ps ws = subst (λ b. SealedBefore ps ws b) end c.loop-n.invariant.2 in

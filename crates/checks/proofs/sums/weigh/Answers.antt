@@ -6,8 +6,8 @@ use Rattle.checks.proofs.sums.weigh.Goals as goal
 share_bound : (i x : ℕ) → i < 512 → x < 256 → (i + 1) * x ≤ 130560
 share_bound i x h k = let a : i + 1 ≤ 512 = omega arith in let b : x ≤ 255 = omega arith in mul-le-mul a b
 
-pub overflow-add-sum : goal.overflow-add-sum
-overflow-add-sum c =
+pub overflow_add-sum : goal.overflow_add-sum
+overflow_add-sum c =
     let b = share_bound c.loop-i.i (get_or c.args.bytes.now c.loop-i.i 0) (search rules) (search rules) in
     search rules
 

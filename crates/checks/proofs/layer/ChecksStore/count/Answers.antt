@@ -7,7 +7,7 @@ pub returns : goal.returns
 returns g c =
     let ps = g.S.Store.pages c.args.self.now.lower in
     record {
-      value = c.checked-count.ensures ∙ ap checked_count c.count.ensures.value ∙ sym (length_checked ps);
+      value = c.checked_count.ensures ∙ ap checked_count c.count.ensures.value ∙ sym (length_checked ps);
       same = ap checked c.count.ensures.same;
       kept = c.count.ensures.kept;
     }

@@ -6,11 +6,11 @@ use Rattle.checks.proofs.Pages.{layer_is}
 use Rattle.checks.proofs.Parts.{ready_is}
 use Rattle.checks.proofs.layer.ChecksStore.is_open.Goals as goal
 
-pub returns-then-not-in-layer : goal.returns-then-not-in-layer
-returns-then-not-in-layer g c =
+pub returns-then-not-in_layer : goal.returns-then-not-in_layer
+returns-then-not-in_layer g c =
     let ps = g.S.Store.pages c.args.self.now.lower in
     let n : ℕ = c.args.n in
-    let out : in_layer (length ps) n ≡ false = ap (λ q. in_layer q n) (sym c.count-below.ensures.value) ∙ sym c.in-layer.ensures ∙ c.if-not-in-layer.true in
+    let out : in_layer (length ps) n ≡ false = ap (λ q. in_layer q n) (sym c.count-below.ensures.value) ∙ sym c.in_layer.ensures ∙ c.if-not-in_layer.true in
     record {
       value = sym (open_outside (checked ps) n (layer_is ps n ∙ out));
       same = ap checked c.count-below.ensures.same;
@@ -21,12 +21,12 @@ pub returns : goal.returns
 returns g c =
     let ps = g.S.Store.pages c.args.self.now.lower in
     let n : ℕ = c.args.n in
-    let inside : in_layer (length ps) n ≡ true = ap (λ q. in_layer q n) (sym c.count-below.ensures.value) ∙ sym c.in-layer.ensures ∙ c.if-not-in-layer.false in
-    let at = c.check-page.ensures ∙ ap (λ q. check_page q n) c.count-below.ensures.value in
+    let inside : in_layer (length ps) n ≡ true = ap (λ q. in_layer q n) (sym c.count-below.ensures.value) ∙ sym c.in_layer.ensures ∙ c.if-not-in_layer.false in
+    let at = c.check_page.ensures ∙ ap (λ q. check_page q n) c.count-below.ensures.value in
     record {
       value =
           c.ready.ensures.value
-          ∙ ap (λ w. ready_answer g.S.Store.layer w n c.check-page.result) c.count-below.ensures.same
+          ∙ ap (λ w. ready_answer g.S.Store.layer w n c.check_page.result) c.count-below.ensures.same
           ∙ ap (ready_answer g.S.Store.layer ps n) at
           ∙ ready_is g.S.Store.layer ps n inside;
       same = ap checked (c.ready.ensures.same ∙ c.count-below.ensures.same);

@@ -7,14 +7,14 @@ use Rattle.checks.specs.Calls.{verify_answer, blank}
 use Rattle.checks.proofs.Parts.{unplaced, placed, read_is, buffer_refused, buffer_granted}
 use Rattle.checks.proofs.layer.ChecksStore.read.Goals as goal
 
-pub returns-in-err-at : goal.returns-in-err-at
-returns-in-err-at g c =
-    let p = err_from_is_err_and c.from-residual.result c.from-residual.ensures.1 in
+pub returns-in_err-at : goal.returns-in_err-at
+returns-in_err-at g c =
+    let p = err_from_is_err_and c.from_residual.result c.from_residual.ensures.1 in
     let ps = g.S.Store.pages c.args.self.now.lower in
     let n : ℕ = c.args.n in
     let old : List ℕ = c.args.buf.now in
-    let e = c.in-err-at.field-0.0 in
-    let h = unplaced ps n (length old) e (sym c.in-err-at.ensures.value) in
+    let e = c.in_err-at.field-0.0 in
+    let h = unplaced ps n (length old) e (sym c.in_err-at.ensures.value) in
     record {
       value = p.1 ∙ ap Err p.2 ∙ sym (read_refused 8 (checked ps) n (length old) e h);
       buffer = sym (held_refused 8 (checked ps) n old e h);
@@ -22,19 +22,19 @@ returns-in-err-at g c =
       kept = c.place.ensures.kept;
     }
 
-pub returns-in-err-verify : goal.returns-in-err-verify
-returns-in-err-verify g c =
-    let p = err_from_is_err_and c.from-residual-in-err-verify.result c.from-residual-in-err-verify.ensures.1 in
+pub returns-in_err-verify : goal.returns-in_err-verify
+returns-in_err-verify g c =
+    let p = err_from_is_err_and c.from_residual-in_err-verify.result c.from_residual-in_err-verify.ensures.1 in
     let ps = g.S.Store.pages c.args.self.now.lower in
     let whole = g.S.Store.laws.whole c.args.self.now.lower in
     let lay : ℕ = g.S.Store.layer in
     let n : ℕ = c.args.n in
-    let at : ℕ = c.in-ok-at.at in
+    let at : ℕ = c.in_ok-at.at in
     let old : List ℕ = c.args.buf.now in
-    let e = c.in-err-verify.field-0.0 in
-    let t = placed ps n (length old) at (sym c.in-ok-at.ensures.value) in
+    let e = c.in_err-verify.field-0.0 in
+    let t = placed ps n (length old) at (sym c.in_ok-at.ensures.value) in
     let told : verify_answer lay ps n (check_page (length ps) n) ≡ Err e =
-    sym (ap (verify_answer lay ps n) t.2) ∙ sym (ap (λ w. verify_answer lay w n at) c.place.ensures.same) ∙ sym c.verify.ensures.value ∙ c.in-err-verify.was in
+    sym (ap (verify_answer lay ps n) t.2) ∙ sym (ap (λ w. verify_answer lay w n at) c.place.ensures.same) ∙ sym c.verify.ensures.value ∙ c.in_err-verify.was in
     record {
       value = p.1 ∙ ap Err p.2 ∙ sym (read_is lay ps n t.1 whole old t.0 ∙ told);
       buffer = sym (buffer_refused lay ps n t.1 whole old t.0 e told);
@@ -48,15 +48,15 @@ returns g c =
     let whole = g.S.Store.laws.whole c.args.self.now.lower in
     let lay : ℕ = g.S.Store.layer in
     let n : ℕ = c.args.n in
-    let at : ℕ = c.in-ok-at.at in
+    let at : ℕ = c.in_ok-at.at in
     let old : List ℕ = c.args.buf.now in
-    let t = placed ps n (length old) at (sym c.in-ok-at.ensures.value) in
+    let t = placed ps n (length old) at (sym c.in_ok-at.ensures.value) in
     let told : verify_answer lay ps n (check_page (length ps) n) ≡ Ok tt =
-    sym (ap (verify_answer lay ps n) t.2) ∙ sym (ap (λ w. verify_answer lay w n at) c.place.ensures.same) ∙ sym c.verify.ensures.value ∙ c.in-ok-verify.was in
+    sym (ap (verify_answer lay ps n) t.2) ∙ sym (ap (λ w. verify_answer lay w n at) c.place.ensures.same) ∙ sym c.verify.ensures.value ∙ c.in_ok-verify.was in
     record {
       value = sym (read_is lay ps n t.1 whole old t.0 ∙ told);
       buffer =
-          c.copy-from-slice.ensures.after
+          c.copy_from_slice.ensures.after
           ∙ c.verify.ensures.buffer
           ∙ ap (λ w. read_buffer w n blank) c.place.ensures.same
           ∙ sym (buffer_granted lay ps n t.1 whole old t.0 tt told);

@@ -9,14 +9,14 @@ use Rattle.checks.specs.Calls.{blank, ready_answer, put_answer, put_pages}
 use Rattle.checks.proofs.Parts.{unplaced, placed, in_checked, ready_is, put_granted, put_pages_lem}
 use Rattle.checks.proofs.layer.ChecksStore.write.Goals as goal
 
-pub returns-in-err-at : goal.returns-in-err-at
-returns-in-err-at g c =
-    let p = err_from_is_err_and c.from-residual.result c.from-residual.ensures.1 in
+pub returns-in_err-at : goal.returns-in_err-at
+returns-in_err-at g c =
+    let p = err_from_is_err_and c.from_residual.result c.from_residual.ensures.1 in
     let ps = g.S.Store.pages c.args.self.now.lower in
     let n : ℕ = c.args.n in
     let bs : List ℕ = c.args.buf.now in
-    let e = c.in-err-at.field-0.0 in
-    let h = unplaced ps n (length bs) e (sym c.in-err-at.ensures.value) in
+    let e = c.in_err-at.field-0.0 in
+    let h = unplaced ps n (length bs) e (sym c.in_err-at.ensures.value) in
     record {
       value = p.1 ∙ ap Err p.2 ∙ sym (write_refused 8 (checked ps) n (length bs) e h);
       after = ap checked c.place.ensures.same ∙ sym (kept_refused 8 (checked ps) n bs e h);
@@ -28,13 +28,13 @@ returns-then-not-ready g c =
     let ps = g.S.Store.pages c.args.self.now.lower in
     let lay : ℕ = g.S.Store.layer in
     let n : ℕ = c.args.n in
-    let at : ℕ = c.in-ok-at.at in
+    let at : ℕ = c.in_ok-at.at in
     let bs : List ℕ = c.args.buf.now in
-    let t = placed ps n (length bs) at (sym c.in-ok-at.ensures.value) in
+    let t = placed ps n (length bs) at (sym c.in_ok-at.ensures.value) in
     let shut : open_at (checked ps) n ≡ false =
     sym (ap (λ w. ready_answer lay w n at) c.place.ensures.same ∙ ap (ready_answer lay ps n) t.2 ∙ ready_is lay ps n t.1) ∙ sym c.ready.ensures.value ∙ c.if-not-ready.true in
     record {
-      value = ap Err (c.new.ensures ∙ ap (fault PageClosed 8) c.on-page.ensures) ∙ sym (write_closed 8 (checked ps) n (length bs) t.0 (in_checked lay ps n t.1) shut);
+      value = ap Err (c.new.ensures ∙ ap (fault PageClosed 8) c.on_page.ensures) ∙ sym (write_closed 8 (checked ps) n (length bs) t.0 (in_checked lay ps n t.1) shut);
       after = ap checked (c.ready.ensures.same ∙ c.place.ensures.same) ∙ sym (kept_closed (checked ps) n bs shut);
       kept = c.ready.ensures.kept ∙ c.place.ensures.kept;
     }
@@ -45,9 +45,9 @@ returns g c =
     let whole = g.S.Store.laws.whole c.args.self.now.lower in
     let lay : ℕ = g.S.Store.layer in
     let n : ℕ = c.args.n in
-    let at : ℕ = c.in-ok-at.at in
+    let at : ℕ = c.in_ok-at.at in
     let bs : List ℕ = c.args.buf.now in
-    let t = placed ps n (length bs) at (sym c.in-ok-at.ensures.value) in
+    let t = placed ps n (length bs) at (sym c.in_ok-at.ensures.value) in
     let o : open_at (checked ps) n ≡ true =
     sym (ap (λ w. ready_answer lay w n at) c.place.ensures.same ∙ ap (ready_answer lay ps n) t.2 ∙ ready_is lay ps n t.1) ∙ sym c.ready.ensures.value ∙ c.if-not-ready.false in
     let below = c.ready.ensures.same ∙ c.place.ensures.same in
