@@ -1,11 +1,11 @@
 -- The bits of a word. Assumes nothing.
-use Rattle.std.proofs.Common.{◌≡◌, ℕ, zero, suc, ◌+◌, ◌-◌, ◌*◌, ◌/◌, ◌%◌, ◌^◌, ◌<◌, ◌≤◌, Bool, true, false, cond, not, ◌&&◌, ◌||◌, eqb, ◌≢◌, List, [], ◌∷◌, length, get_or, set, sym, refl, ap, ◌∙◌, subst, ⊎_elim, add-one, one-add, arith}
+use Rattle.std.proofs.Common.{◌≡◌, ℕ, zero, suc, ◌+◌, ◌/◌, ◌%◌, ◌^◌, ◌<◌, ◌≤◌, Bool, true, false, cond, not, ◌&&◌, ◌||◌, eqb, ◌≢◌, sym, refl, ◌∙◌, ⊎_elim, add-one, one-add, arith}
 use lib.Bits.{bit_or, bit_xor, bit_and}
-use lib.Count.{ones, count_trailing_zeros, ones_step, under}
-use Rattle.std.proofs.lemmas.Nat.{pow_pos, shr-shr, or_shr, or_mod, xor_shr, xor_mod, and_shr, and_mod, shr_below, pow_below}
-use Rattle.std.proofs.lemmas.Bool.{cases_lt, cases_eq, eq-eqb, ne_eqb}
+use lib.Count.{ones, count_trailing_zeros, ones_step}
+use Rattle.std.proofs.lemmas.Nat.{shr-shr, or_shr, or_mod, xor_shr, xor_mod, and_shr, and_mod, shr_below}
+use Rattle.std.proofs.lemmas.Bool.{cases_eq, eq-eqb, ne_eqb}
 use Rattle.std.proofs.lemmas.Bool.Decides.{nat_tests}
-use Rattle.pageset.specs.Sets.{bit, bit_at, holds, tally}
+use Rattle.pageset.specs.Sets.{bit}
 
 -- bit j of a word without its first k bits
 pub bit_shr : (w k j : ℕ) → bit (w / 2 ^ k) j ≡ bit w (k + j)

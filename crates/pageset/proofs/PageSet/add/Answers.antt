@@ -1,16 +1,17 @@
-use Rattle.std.proofs.Common.{◌≡◌, ◌+◌, ◌-◌, ◌*◌, ◌/◌, ◌%◌, ◌^◌, ◌<◌, length, get_or, refl, arith}
-use Rattle.std.proofs.lemmas.Nat.{one_shl, or_lt, pow_below, mod_below}
+use Rattle.std.proofs.Common.{◌-◌, ◌*◌, ◌/◌, ◌%◌, ◌^◌, ◌<◌, get_or, arith}
+use Rattle.std.proofs.lemmas.Nat.{one_shl, or_lt}
 use Rattle.std.proofs.lemmas.List.{length-set}
 use Rattle.pageset.proofs.Members.{plus_added, plus_others, words_set}
 use Rattle.pageset.proofs.PageSet.add.Goals as goal
 
-pub invariant-of-self : goal.invariant-of-self
-invariant-of-self c =
+pub invariant_of-self : goal.invariant_of-self
+invariant_of-self c =
     let t = c.args.self.now in
-    let k = c.args.page - 1 in (
-      simp length-set t.sized,
-      (words_set t.words (k / 64) _ t.bits (or_lt 64 (get_or t.words (k / 64) 0) ((1 * 2 ^ (k % 64)) % 2 ^ 64) (t.bits (k / 64)) (omega arith)), tt),
-    )
+    let k = c.args.page - 1 in
+    record {
+      sized = simp length-set t.sized;
+      bits = words_set t.words (k / 64) _ t.bits (or_lt 64 (get_or t.words (k / 64) 0) ((1 * 2 ^ (k % 64)) % 2 ^ 64) (t.bits (k / 64)) (omega arith));
+    }
 
 pub returns : goal.returns
 returns c =

@@ -1,5 +1,5 @@
-use Rattle.std.proofs.Common.{◌≡◌, ◌<◌, false, sym, refl, ⊎_elim, arith}
-use Rattle.pageset.specs.Sets.{bit, holds}
+use Rattle.std.proofs.Common.{◌≡◌, ◌<◌, sym, ⊎_elim, arith}
+use Rattle.pageset.specs.Sets.{bit}
 use Rattle.pageset.proofs.Members.{holds_zero, holds_past, holds_at}
 use Rattle.pageset.proofs.PageSet.has.Goals as goal
 

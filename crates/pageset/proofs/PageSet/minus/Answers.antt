@@ -2,13 +2,13 @@ use Rattle.std.proofs.Common.{get_or, arith}
 use Rattle.pageset.proofs.Members.{holds_less, lessened, less_lt}
 use Rattle.pageset.proofs.PageSet.minus.Goals as goal
 
-pub invariant-of-result : goal.invariant-of-result
-invariant-of-result c =
+pub invariant_of-result : goal.invariant_of-result
+invariant_of-result c =
     let s = c.args.self.now in
     let o = c.args.other.now in
     let v = c.loop-i.invariant in
     let all = lessened s.words o.words c.loop-i.words s.sized o.sized v.2 (λ k l. v.0 k (omega arith)) in
-    (v.2, ((λ k. rw (all k) (less_lt (get_or s.words k 0) (get_or o.words k 0) (s.bits k))), tt))
+    record { sized = v.2; bits = λ k. rw (all k) (less_lt (get_or s.words k 0) (get_or o.words k 0) (s.bits k)) }
 
 pub returns : goal.returns
 returns c n =
