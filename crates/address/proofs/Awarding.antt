@@ -1,8 +1,8 @@
 -- Free slots given, one after another, to the wanted pages that have none. Assumes nothing.
-use Rattle.std.proofs.Common.{◌≡◌, ℕ, ◌+◌, ◌-◌, ◌<◌, ◌≤◌, Bool, true, false, not, ◌&&◌, ltb, ◌≢◌, List, length, get_or, set, sym, refl, ap, ◌∙◌, subst, ⊎_elim, arith, get_or-set_other, get_or-set_same}
-use Rattle.std.proofs.lemmas.Bool.{cases_eq, cases_lt, both_ways, lt-ltb, ltb-true}
+use Rattle.std.proofs.Common.{◌≡◌, ℕ, ◌+◌, ◌<◌, ◌≤◌, Bool, true, false, not, ◌&&◌, ◌≢◌, List, get_or, set, sym, ◌∙◌, ⊎_elim, arith, get_or-set_other, get_or-set_same}
+use Rattle.std.proofs.lemmas.Bool.{cases_eq, cases_lt, lt-ltb, ltb-true}
 use Rattle.pageset.specs.Sets.{tally}
-use Rattle.address.specs.Pairing.{Sound, Only, All, owned}
+use Rattle.address.specs.Pairing.{Sound, Only, All}
 use Rattle.address.proofs.Counting.{owned_full, owned_fewer}
 use Rattle.address.proofs.Changes.{sound_put}
 use Rattle.address.specs.Listing.{Listed}

@@ -1,8 +1,7 @@
 -- Slots taken, one after another, from the pages of a set that are not wanted. Assumes nothing.
-use Rattle.std.proofs.Common.{◌≡◌, ℕ, ◌+◌, ◌-◌, ◌<◌, ◌≤◌, Bool, true, false, not, ◌&&◌, ltb, ◌≢◌, List, length, get_or, set, sym, refl, ap, ◌∙◌, subst, ⊎_elim, arith, get_or-set_other}
-use Rattle.std.proofs.lemmas.List.{get_or_past}
-use Rattle.std.proofs.lemmas.Bool.{cases_eq, cases_lt, cases_Bool, both_ways, lt-ltb, le-ltb, true≢false}
-use Rattle.address.specs.Pairing.{Sound, Only}
+use Rattle.std.proofs.Common.{◌≡◌, ℕ, ◌-◌, ◌<◌, ◌≤◌, Bool, true, false, not, ◌&&◌, ◌≢◌, List, get_or, set, sym, refl, ◌∙◌, ⊎_elim, arith, get_or-set_other}
+use Rattle.std.proofs.lemmas.Bool.{cases_eq, cases_lt, both_ways, lt-ltb}
+use Rattle.address.specs.Pairing.{Sound}
 use Rattle.address.proofs.Changes.{clear_same, sound_clear}
 use Rattle.address.specs.Listing.{Listed}
 

@@ -4,7 +4,7 @@ use Rattle.address.proofs.Awarding.{Awarded}
 use Rattle.address.proofs.table.award.Given as goal
 
 abbrev pub invariant-loop-page : goal.invariant-loop-page
-invariant-loop-page l = Awarded (holds l.wanted.words) l.initial.slot-of l.page-of l.slot-of l.slots l.used (holds l.pages.words) l.next l.page
+invariant-loop-page l = Awarded (holds l.wanted.words) l.initial.slot_of l.page_of l.slot_of l.slots l.used (holds l.pages.words) l.next l.page
 
 abbrev pub decreases-loop-page : goal.decreases-loop-page
 decreases-loop-page l = 1025 - l.page

@@ -1,12 +1,12 @@
-use Rattle.std.proofs.Common.{◌≡◌, ◌-◌, ◌<◌, ◌≤◌, get_or, set, sym, refl, arith}
+use Rattle.std.proofs.Common.{◌-◌, get_or, set, arith}
 use Rattle.pageset.specs.Sets.{holds}
 use Rattle.address.proofs.Counting.{owned_clear}
 use Rattle.address.proofs.Changes.{clear_same}
 use Rattle.address.proofs.Releasing.{next_out, released_drop, released_pass}
 use Rattle.address.proofs.table.release.Goals as goal
 
-pub overflow-sub-used : goal.overflow-sub-used
-overflow-sub-used c =
+pub overflow_sub-used : goal.overflow_sub-used
+overflow_sub-used c =
     let v = c.loop-page.invariant in
     let o = owned_clear c.loop-page.slot_of c.loop-page.page (omega (arith, v.sound.sized, c.loop-page-test.true)) (omega (arith, c.if-s-eq0.false)) in
     omega (arith, o, v.sound.counted)
@@ -15,8 +15,8 @@ pub loop-page-preserved : goal.loop-page-preserved
 loop-page-preserved c =
     let v = c.loop-page.invariant in
     let p = holds c.args.wanted.now.words in
-    let old = c.args.slot-of.now in
-    let page = c.loop-page.page-of in
+    let old = c.args.slot_of.now in
+    let page = c.loop-page.page_of in
     let slot = c.loop-page.slot_of in
     let n = c.loop-page.page in
     let after = c.after-page-in-loop-page.ensures in

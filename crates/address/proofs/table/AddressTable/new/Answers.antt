@@ -3,11 +3,11 @@ use Rattle.std.proofs.lemmas.Bool.{le-ltb}
 use Rattle.address.proofs.Changes.{zeros}
 use Rattle.address.proofs.table.AddressTable.new.Goals as goal
 
-pub invariant-of-result : goal.invariant-of-result
-invariant-of-result c = (
-  (λ k p. absurd (omega (arith, p, zeros 257 k)), λ k p. absurd (omega (arith, p, zeros 1025 k))),
-  (
-    ((refl, refl), (omega (arith, c.min.ensures), ((λ k. omega (arith, zeros 257 k)), (λ k. omega (arith, zeros 1025 k))))),
-    ((refl, refl), ((refl, refl), ((λ k. c.new.ensures k ∙ sym (le-ltb 0 _ (omega (arith, zeros 1025 k)))), tt))),
-  ),
-)
+pub invariant_of-result : goal.invariant_of-result
+invariant_of-result c = record {
+  agree = (λ k p. absurd (omega (arith, p, zeros 257 k)), λ k p. absurd (omega (arith, p, zeros 1025 k)));
+  within = ((refl, refl), (omega (arith, c.min.ensures), ((λ k. omega (arith, zeros 257 k)), (λ k. omega (arith, zeros 1025 k)))));
+  counted = (refl, refl);
+  sized = (refl, refl);
+  listed = λ k. c.new.ensures k ∙ sym (le-ltb 0 _ (omega (arith, zeros 1025 k)));
+}
