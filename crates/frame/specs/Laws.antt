@@ -1,5 +1,5 @@
 -- What is proved of the definitions. Assumes nothing.
-use Rattle.std.specs.Prelude.{◌≡◌, ℕ, ◌+◌, ◌*◌, ◌^◌, ◌<◌, ◌≤◌, true, false, cond, ◌||◌, List, length, set, Ok, ◌==◌, slice_index, slice_index_or, slice_set}
+use Rattle.std.specs.Prelude.{◌≡◌, ℕ, ◌+◌, ◌*◌, ◌^◌, ◌<◌, ◌≤◌, true, false, cond, ◌||◌, List, length, Ok, ◌==◌, slice_index, slice_index_or, slice_set}
 use Rattle.page.specs.Descriptors.{declared, linked}
 use Rattle.page.specs.Form.{head_of, first_fault}
 use Rattle.page.specs.Links.{is_link}

@@ -1,5 +1,5 @@
 -- A page in a frame has addresses where the page in the store has long pointers. Assumes nothing.
-use Rattle.std.specs.Prelude.{ℕ, ◌+◌, ◌-◌, ◌*◌, ◌/◌, ◌%◌, ◌^◌, ◌<◌, Bool, false, cond, ◌&&◌, List, [], ◌∷◌, set, ◌==◌, nat_le, nat_lt, slice_index, slice_index_or, slice_set}
+use Rattle.std.specs.Prelude.{ℕ, ◌+◌, ◌-◌, ◌*◌, ◌/◌, ◌%◌, ◌^◌, ◌<◌, Bool, false, cond, ◌&&◌, List, [], ◌∷◌, ◌==◌, nat_le, nat_lt, slice_index, slice_index_or, slice_set}
 use Rattle.page.specs.Descriptors.{declared, linked}
 use Rattle.page.specs.Walks.{kind_of, link_cells, start_cells}
 use Rattle.page.specs.declared.descriptor.Descriptor.{Descriptor}

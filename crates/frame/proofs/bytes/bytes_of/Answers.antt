@@ -16,7 +16,7 @@ loop-i-preserved c =
     let xs = c.args.cells.now in
     let x = get_or xs i 0 in
     let fits : 8 * i + 8 ≤ length bs = omega arith in
-    (ap length c.put-number.ensures ∙ length_put bs i x fits ∙ c.loop-i.invariant.0, c.put-number.ensures ∙ put_more xs bs i (omega arith) (omega arith) c.loop-i.invariant.1)
+    (ap length c.put_number.ensures ∙ length_put bs i x fits ∙ c.loop-i.invariant.0, c.put_number.ensures ∙ put_more xs bs i (omega arith) (omega arith) c.loop-i.invariant.1)
 
 pub returns : goal.returns
 returns c =

@@ -15,7 +15,7 @@ loop-i-preserved c =
     let xs = c.loop-i.cells in
     let bs = c.args.bytes.now in (
       length-set _ _ _ ∙ c.loop-i.invariant.0,
-      λ k h. ap (λ y. get_or (set xs i y) k 0) c.number-at.ensures ∙ fill_by_more (cell_at bs) xs i 0 (omega arith) c.loop-i.invariant.1 k h,
+      λ k h. ap (λ y. get_or (set xs i y) k 0) c.number_at.ensures ∙ fill_by_more (cell_at bs) xs i 0 (omega arith) c.loop-i.invariant.1 k h,
     )
 
 pub returns : goal.returns

@@ -12,14 +12,14 @@ loop-i-init c n = c.new-pages.ensures n
 
 pub loop-i-preserved : goal.loop-i-preserved
 loop-i-preserved c n =
-    let ls = c.link-cells-links.result in
+    let ls = c.link_cells-links.result in
     let xs = c.args.cells.now in
-    let long : length ls ≡ 64 = ap length c.link-cells-links.ensures ∙ length_link_cells (types c.args.catalogue.now) xs ∙ c.told-cells in
-    pages_more c.loop-i.pages.words c.add-target.new.pages.words n ls xs c.loop-i.i (omega arith) (omega arith) (c.loop-i.invariant n) (c.add-target.ensures n)
+    let long : length ls ≡ 64 = ap length c.link_cells-links.ensures ∙ length_link_cells (types c.args.catalogue.now) xs ∙ c.told-cells in
+    pages_more c.loop-i.pages.words c.add_target.new.pages.words n ls xs c.loop-i.i (omega arith) (omega arith) (c.loop-i.invariant n) (c.add_target.ensures n)
 
 pub returns : goal.returns
 returns c n =
-    let ls = c.link-cells-links.result in
+    let ls = c.link_cells-links.result in
     let xs = c.args.cells.now in
-    let long : length ls ≡ 64 = ap length c.link-cells-links.ensures ∙ length_link_cells (types c.args.catalogue.now) xs ∙ c.told-cells in
-    c.loop-i.invariant n ∙ ap (λ l. any_leads n l xs && is_page n) (take_all c.loop-i.i ls (omega arith) ∙ c.link-cells-links.ensures)
+    let long : length ls ≡ 64 = ap length c.link_cells-links.ensures ∙ length_link_cells (types c.args.catalogue.now) xs ∙ c.told-cells in
+    c.loop-i.invariant n ∙ ap (λ l. any_leads n l xs && is_page n) (take_all c.loop-i.i ls (omega arith) ∙ c.link_cells-links.ensures)

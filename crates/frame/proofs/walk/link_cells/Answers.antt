@@ -1,4 +1,4 @@
-use Rattle.std.proofs.Common.{◌≡◌, ℕ, ◌+◌, ◌-◌, ◌<◌, Bool, false, List, length, get_or, set, sym, refl, ap, ◌∙◌, arith, get_or-set_other, get_or-set_same, below_more}
+use Rattle.std.proofs.Common.{◌≡◌, ℕ, ◌+◌, ◌<◌, Bool, false, List, length, get_or, set, sym, refl, ap, ◌∙◌, arith, get_or-set_other, get_or-set_same, below_more}
 use Rattle.std.proofs.lemmas.List.{length-set, ext_get_or}
 use Rattle.page.specs.Types.{types}
 use Rattle.page.specs.Walks.{odd, link_cells}
@@ -31,7 +31,7 @@ loop-i-preserved c =
           let s = links_header ts bs xs i (omega arith) c.loop-i.left c.loop-i.mask was.2 w.if-left-eq0.true in (
             ap length w.links-is ∙ length-set _ _ _ ∙ was.0,
             (λ k h. ap (λ l. get_or l k false) w.links-is ∙ filled ls bs i false was.0 (omega arith) was.1 s.0 k h),
-            simp (w.left-is, w.mask-is, w.kind-of-kind.ensures) s.1,
+            simp (w.left-is, w.mask-is, w.kind_of-kind.ensures) s.1,
           )
       | else-left-eq0 w ↦
           let s = links_field ts bs xs i (omega arith) c.loop-i.left c.loop-i.mask was.2 (omega (arith, w.if-left-eq0.false)) in (

@@ -31,7 +31,7 @@ loop-i-preserved c =
     let i = c.loop-i.i in
     let short : i < length xs = omega arith in
     elim c.if-left-eq0.branch [
-      | then-left-eq0 w ↦ simp (w.left-is, w.kind-of-left.ensures) (starts_header ts bs xs i short c.loop-i.left c.loop-i.invariant w.if-left-eq0.true).1
+      | then-left-eq0 w ↦ simp (w.left-is, w.kind_of-left.ensures) (starts_header ts bs xs i short c.loop-i.left c.loop-i.invariant w.if-left-eq0.true).1
       | else-left-eq0 w ↦ simp w.left-is (starts_field ts bs xs i short c.loop-i.left c.loop-i.invariant (omega (arith, w.if-left-eq0.false))).1
     ]
 
@@ -56,7 +56,7 @@ returns c =
     let e : i ≡ c.args.cell = omega arith in
     record {
       value =
-          c.is-some.ensures ∙ ap is_some c.descriptor.ensures.value ∙ found_some ts (get_or xs c.args.cell 0)
+          c.is_some.ensures ∙ ap is_some c.descriptor.ensures.value ∙ found_some ts (get_or xs c.args.cell 0)
           ∙ ap (λ j. declared ts (get_or xs j 0)) (sym e)
           ∙ sym (starts_header ts bs xs i (omega arith) c.loop-i.left c.loop-i.invariant (omega (arith, c.if-left-gt0.false))).0
           ∙ ap (λ j. get_or bs j false) e;

@@ -10,13 +10,13 @@ use Rattle.frame.proofs.Swizzles.{append_back}
 use Rattle.frame.proofs.Walks.{found_kind}
 use Rattle.frame.proofs.frame.Frame.append.Goals as goal
 
-pub invariant-of-self : goal.invariant-of-self
-invariant-of-self c =
+pub invariant_of-self : goal.invariant_of-self
+invariant_of-self c =
     let x = c.args.self.now in
     let u = get_or x.cells 0 0 in
     let h : c.args.header < 2 ^ 64 = search rules in
-    let l : u + 1 + c.in-Some.descriptor.size < 2 ^ 64 = omega (arith, c.if-last-gt-LAST-CELL.false) in
-    (length-set (set x.cells 0 _) _ _ ∙ length-set x.cells 0 _ ∙ x.whole, (small_set (set x.cells 0 _) _ c.args.header (small_set x.cells 0 _ x.small l) h, tt))
+    let l : u + 1 + c.in-Some.descriptor.size < 2 ^ 64 = omega (arith, c.if-last-gt-LAST_CELL.false) in
+    record { whole = length-set (set x.cells 0 _) _ _ ∙ length-set x.cells 0 _ ∙ x.whole; small = small_set (set x.cells 0 _) _ c.args.header (small_set x.cells 0 _ x.small l) h }
 
 pub returns : goal.returns
 returns c =
@@ -27,7 +27,7 @@ returns c =
     let is = found_kind ts h c.in-Some.descriptor c.in-Some.ensures.value in
     let size : c.in-Some.descriptor.size ≡ (kind_of ts h).size = ap (λ (d : Descriptor). d.size) (sym is.1) in
     record {
-      cell = sym (cond-true (room_for ts xs h) _ _ (and_from (declared ts h) _ is.0 (le-leb _ _ (omega (arith, size, c.if-last-gt-LAST-CELL.false)))));
+      cell = sym (cond-true (room_for ts xs h) _ _ (and_from (declared ts h) _ is.0 (le-leb _ _ (omega (arith, size, c.if-last-gt-LAST_CELL.false)))));
       cells = ap (λ n. set (set xs 0 (u + 1 + n)) (u + 1) h) size;
       page = refl;
       needs = refl;
