@@ -1,5 +1,5 @@
 -- What store, table and frames stand for does not change with their own moves. Assumes nothing.
-use Rattle.std.specs.Prelude.{◌≡◌, ℕ, ◌+◌, ◌/◌, ◌^◌, ◌<◌, ◌≤◌, Bool, true, false, cond, List, [], ◌∷◌, length, set, replicate, Some, None, Ok, Option, ◌≢◌, slice_index, slice_index_or, slice_set}
+use Rattle.std.specs.Prelude.{◌≡◌, ℕ, ◌+◌, ◌/◌, ◌^◌, ◌<◌, ◌≤◌, Bool, true, false, cond, List, [], ◌∷◌, length, replicate, Some, None, Ok, Option, ◌≢◌, slice_index, slice_index_or, slice_set}
 use Rattle.page.specs.Cells.{cell_at, put_cell}
 use Rattle.page.specs.Form.{first_fault}
 use Rattle.page.specs.Walks.{link_cells, field_cells, start_cells, links_to, cells_of}
