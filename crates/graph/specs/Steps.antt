@@ -1,5 +1,5 @@
 -- The calls and their refusals. Assumes nothing.
-use Rattle.std.specs.Prelude.{ℕ, ◌+◌, ◌-◌, ◌*◌, ◌/◌, ◌%◌, Bool, false, cond, not, List, [], ◌∷◌, get_or, Some, None, Ok, Err, Option, ◌==◌, nat_le, nat_lt, slice_index_or, slice_set}
+use Rattle.std.specs.Prelude.{ℕ, ◌+◌, ◌-◌, ◌*◌, ◌/◌, ◌%◌, Bool, false, cond, not, List, [], ◌∷◌, Some, None, Ok, Err, Option, ◌==◌, nat_le, nat_lt, slice_index_or, slice_set}
 use Rattle.fault.specs.declared.kinds.Cause.TheVariants.{NoCursor, EmptyCursor, NoField, WrongKind, AbsentLink, NoPage, NoObject, PageClosed, NoRoom, NoType}
 use Rattle.fault.specs.declared.kinds.Place.{Place}
 use Rattle.fault.specs.Faults.{nowhere, on_page, on_cell, on_field, fault, via}
@@ -72,7 +72,7 @@ cursor c = nat_le c 15 else fault NoCursor 2 nowhere
 
 module _ (s : Setting) (g : Graph) where
   abbrev pub stands_on : ℕ → Checked Position
-  stands_on c = get_or g.cursors c None otherwise fault EmptyCursor 2 nowhere
+  stands_on c = slice_index_or g.cursors c None otherwise fault EmptyCursor 2 nowhere
 
   abbrev pub page : ℕ → Checked (Unit {0})
   page n = is_page g.pages n else fault NoPage 2 (on_page n)
