@@ -10,24 +10,24 @@ use Rattle.inspection.proofs.survey.count_parts.Goals as goal
 pub loop-part-init : goal.loop-part-init
 loop-part-init c =
     let ts = types c.args.catalogue.now in
-    let l = remaining c.in-ok-reader.reader in
-    let e = c.in-ok-reader.ensures.parts in
+    let l = remaining c.in_ok-reader.reader in
+    let e = c.in_ok-reader.ensures.parts in
     let few = few_left ts c.args.pages c.args.page c.args.bytes.now l e in
     (sym (ap (λ (r : Checked Remaining). r >>= (λ l. unless l.fault (tally ts empty l.parts))) e), omega (arith, few), omega (arith, few))
 
-pub returns-in-err-part : goal.returns-in-err-part
-returns-in-err-part c =
-    let p = err_from_is_err_and c.from-residual-in-err-part.result c.from-residual-in-err-part.ensures.1 in
+pub returns-in_err-part : goal.returns-in_err-part
+returns-in_err-part c =
+    let p = err_from_is_err_and c.from_residual-in_err-part.result c.from_residual-in_err-part.ensures.1 in
     let l = remaining c.loop-part.reader in
-    let h = sym (ap (λ r. Some (seen_part r)) c.in-err-part.was) ∙ c.in-Some.ensures.part in
-    rw (p.1, p.2) (sym (c.loop-part.invariant.0 ∙ at_fault (types c.args.catalogue.now) c.loop-part.survey l.parts l.fault c.in-err-part.field-0.0 h))
+    let h = sym (ap (λ r. Some (seen_part r)) c.in_err-part.was) ∙ c.in-Some.ensures.part in
+    rw (p.1, p.2) (sym (c.loop-part.invariant.0 ∙ at_fault (types c.args.catalogue.now) c.loop-part.survey l.parts l.fault c.in_err-part.field-0.0 h))
 
 pub loop-part-preserved : goal.loop-part-preserved
 loop-part-preserved c =
     let ts = types c.args.catalogue.now in
     let l = remaining c.loop-part.reader in
-    let x = part_of c.in-ok-part.field-0 in
-    let h = sym (ap (λ r. Some (seen_part r)) c.in-ok-part.was) ∙ c.in-Some.ensures.part in
+    let x = part_of c.in_ok-part.field-0 in
+    let h = sym (ap (λ r. Some (seen_part r)) c.in_ok-part.was) ∙ c.in-Some.ensures.part in
     let m = one_more ts c.loop-part.survey l.parts l.fault x h in
     let after = c.step.ensures.after in
     let fewer = ap (λ (r : Remaining). length r.parts) after in
@@ -41,4 +41,4 @@ loop-part-preserved c =
 pub returns : goal.returns
 returns c =
     let l = remaining c.loop-part.reader in
-    sym (c.loop-part.invariant.0 ∙ at_end (types c.args.catalogue.now) c.loop-part.survey l.parts l.fault c.in-default.ensures.part)
+    sym (c.loop-part.invariant.0 ∙ at_end (types c.args.catalogue.now) c.loop-part.survey l.parts l.fault c.in_default.ensures.part)

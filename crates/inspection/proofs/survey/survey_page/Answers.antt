@@ -11,7 +11,7 @@ pub returns : goal.returns
 returns c =
     let ts = types c.args.catalogue.now in
     let bs = c.args.bytes.now in
-    let e = c.count-parts.ensures in
+    let e = c.count_parts.ensures in
     let P : Checked Survey → Type 0 = λ r. IfOk r (λ s. s.free ≡ 63 - head_of bs) in
     record {
       value = e;
