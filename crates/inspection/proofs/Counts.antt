@@ -1,6 +1,5 @@
 -- Counting over the parts of a page. Assumes nothing.
 use Rattle.std.proofs.Common.{◌≡◌, ℕ, zero, suc, ◌+◌, ◌-◌, ◌*◌, ◌/◌, ◌<◌, ◌≤◌, Bool, true, false, cond, ◌&&◌, eqb, ltb, leb, List, [], ◌∷◌, length, drop, IfOk, Some, None, Ok, Err, Option, sym, refl, ap, ◌∙◌, subst, arith, length-drop}
-use Rattle.std.specs.Result.{result_err}
 use Rattle.std.proofs.lemmas.Bool.{eqb-true, leb-true}
 use Rattle.fault.specs.declared.kinds.Fault.{Fault}
 use Rattle.fault.specs.declared.kinds.Cause.TheVariants.{HeadTooLarge, WrongLength}
@@ -8,7 +7,7 @@ use Rattle.fault.specs.Faults.{nowhere, on_cell, fault}
 use Rattle.fault.specs.Refusals.{Checked, ◌>>=◌, ◌>>◌, ◌else◌}
 use Rattle.page.specs.Descriptors.{linked}
 use Rattle.page.specs.Form.{head_of, object_at, unused_fault, examined}
-use Rattle.page.specs.Parts.{Part, object, unused, Remaining, only, last_part, object_part, parts_from, parts_of, reader_of, first_of, later_of, Faithful}
+use Rattle.page.specs.Parts.{Part, Remaining, only, last_part, object_part, parts_from, parts_of, reader_of, first_of, later_of, Faithful}
 use Rattle.page.specs.declared.descriptor.Descriptor.{Descriptor}
 use Rattle.page.proofs.Whole.{faithful, few_parts}
 use Rattle.inspection.specs.Surveys.{field_of, links_from, counted, tally, empty, unless, surveyed, verdict}

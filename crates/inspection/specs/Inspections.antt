@@ -1,6 +1,6 @@
 -- The verdict on a page of a store. Assumes nothing.
 use Rattle.std.specs.Prelude.{ℕ, List, length}
-use Rattle.fault.specs.Refusals.{Checked, ◌>>=◌, ◌>>◌}
+use Rattle.fault.specs.Refusals.{Checked, ◌>>◌}
 use Rattle.page.specs.declared.descriptor.Descriptor.{Descriptor}
 use Rattle.store.specs.Pages.{Page}
 use Rattle.store.specs.Rules.{read_answer, read_buffer}

@@ -1,10 +1,10 @@
 -- What an inspection counts on a page. Assumes nothing.
-use Rattle.std.specs.Prelude.{ℕ, zero, suc, ◌+◌, ◌/◌, Bool, cond, ◌&&◌, List, [], ◌∷◌, length, Some, None, Ok, Err, Option, nat_lt}
+use Rattle.std.specs.Prelude.{ℕ, zero, suc, ◌+◌, ◌/◌, cond, ◌&&◌, List, [], ◌∷◌, length, Some, None, Ok, Err, Option, nat_lt}
 use Rattle.std.specs.Option.{unwrap_or}
 use Rattle.fault.specs.declared.kinds.Fault.{Fault}
-use Rattle.fault.specs.Refusals.{Checked, ◌>>=◌, ◌>>◌}
+use Rattle.fault.specs.Refusals.{Checked, ◌>>=◌}
 use Rattle.page.specs.Cells.{cell_in}
-use Rattle.page.specs.Descriptors.{no_type, linked, found}
+use Rattle.page.specs.Descriptors.{linked, found}
 use Rattle.page.specs.Parts.{Part, object, unused, reader_of}
 use Rattle.page.specs.declared.descriptor.Descriptor.{Descriptor}
 use Rattle.inspection.specs.declared.survey.Survey.{Survey}

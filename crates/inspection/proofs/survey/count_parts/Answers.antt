@@ -1,9 +1,9 @@
-use Rattle.std.proofs.Common.{◌≡◌, ℕ, ◌+◌, ◌*◌, ◌≤◌, length, Some, None, Ok, Err, sym, ap, ◌∙◌, arith}
+use Rattle.std.proofs.Common.{length, Some, sym, ap, ◌∙◌, arith}
 use Rattle.std.proofs.lemmas.Result.{err_from_is_err_and}
 use Rattle.fault.specs.Refusals.{Checked, ◌>>=◌}
 use Rattle.page.specs.Parts.{Remaining, after_next}
 use Rattle.page.specs.Types.{types, remaining, part_of, seen_part}
-use Rattle.inspection.specs.Surveys.{empty, tally, unless, surveyed}
+use Rattle.inspection.specs.Surveys.{empty, tally, unless}
 use Rattle.inspection.proofs.Counts.{one_more, at_fault, at_end, few_left}
 use Rattle.inspection.proofs.survey.count_parts.Goals as goal
 
