@@ -6,11 +6,13 @@ mod tests {
     use console::{Ending, start};
     use std::fs;
     use std::io::BufWriter;
-    use std::test::*;
+    use std::process::Abort;
+    use std::rt::Files;
+    use std::test::Fail;
 
     // Runs the program on a command line, and checks what it writes.
-    fn expect(
-        rt: &HostRuntime,
+    fn expect<R: Files + AllocGlobal + Abort>(
+        rt: &R,
         line: &str,
         out: &str,
         err: &str,
@@ -24,14 +26,13 @@ mod tests {
         let mut written = BufWriter::new(heap, Vec::new(heap))?;
         let mut complained = Vec::new(heap);
         let ended = start(rt, words.as_slice(), &mut written, &mut complained)?;
-        assert_eq!(
+        assert_eq!(rt;
             String::from_utf8(written.into_inner()?)?.as_str(),
             out,
-            "{}",
-            line
+            "{line}"
         );
-        assert_eq!(String::from_utf8(complained)?.as_str(), err, "{}", line);
-        assert_eq!(ended, ending, "{}", line);
+        assert_eq!(rt; String::from_utf8(complained)?.as_str(), err, "{line}");
+        assert_eq!(rt; ended, ending, "{line}");
         Ok(())
     }
 
