@@ -3,11 +3,8 @@
 
 use console::{Ending, start};
 use std::io::BufWriter;
+use std::process::ExitCode;
 use std::{env, io};
-
-// Ends the process with status 1: what there was to say has been written.
-#[derive(Drop)]
-struct Failed;
 
 fn run(rt: &HostRuntime) -> io::Result<Ending> {
     let words: Vec<String> = env::args(rt)?.skip(1).collect(rt.alloc())?;
@@ -15,13 +12,14 @@ fn run(rt: &HostRuntime) -> io::Result<Ending> {
     start(rt, words.as_slice(), &mut out, &mut rt.stderr())
 }
 
-fn main(rt: HostRuntime) -> Result<(), Failed> {
+// The status is 1 where what there was to say has been written, or could not be.
+fn main(rt: HostRuntime) -> ExitCode {
     match run(&rt) {
-        Ok(Ending::Done) => Ok(()),
-        Ok(Ending::Failed) => Err(Failed),
+        Ok(Ending::Done) => ExitCode::SUCCESS,
+        Ok(Ending::Failed) => ExitCode::FAILURE,
         Err(e) => {
             let _ = eprintln!(rt; "balunsep: {e}");
-            Err(Failed)
+            ExitCode::FAILURE
         }
     }
 }
