@@ -2,7 +2,6 @@
 use Rattle.std.proofs.Common.{◌≡◌, ℕ, ◌<◌, ◌≤◌, Bool, ◌||◌, eqb, leb, List, is_ok, IfOk, Ok, Err, Option, sym, refl, ap, ◌∙◌, subst}
 use Rattle.std.proofs.lemmas.Bool.{leb-false}
 use Rattle.fault.specs.declared.kinds.Cause.TheVariants.{NoAddresses}
-use Rattle.fault.specs.declared.kinds.Fault.{Fault}
 use Rattle.fault.specs.Faults.{on_page, fault}
 use Rattle.fault.specs.Refusals.{Checked}
 use Rattle.pageset.specs.Sets.{holds, tally}
@@ -14,10 +13,12 @@ use Rattle.page.specs.declared.catalogue.ClosedCatalogue.{ClosedCatalogue}
 use Rattle.page.specs.declared.descriptor.Descriptor.{Descriptor}
 use Rattle.frame.specs.declared.frame.Frame.{Frame}
 use Rattle.store.specs.Pages.{Page}
+use Rattle.store.specs.declared.Store.{Ghosts as StoreGhosts}
+use Rattle.policy.specs.declared.Policy.{Ghosts as PolicyGhosts}
 use Rattle.pool.specs.Bringing.{Brought}
 use Rattle.pool.specs.Courses.{Course, Opens, arrived, refused}
 use Rattle.pool.specs.Meaning.{Fine, Tied, Same}
-use Rattle.pool.specs.Opening.{Incoming, wanted_with}
+use Rattle.pool.specs.Opening.{Incoming}
 use Rattle.pool.specs.declared.pool.Pool.{Pool}
 use Rattle.pool.proofs.Enters.{or_turn}
 
@@ -37,7 +38,7 @@ course_moves P cat cat₁ tab tab₁ fs fs₁ count count₁ pol pol₁ ps ps₁
     (subst (λ y. P cat₁ tab₁ fs₁ count₁ y ps) e
     (subst (λ y. P cat₁ tab₁ fs₁ count₁ pol₁ y) f x)))))
 
-module _ {S V : Type 0} (picks : V → List Bool → ℕ → V → Type 0) (touches : V → ℕ → V → Type 0) (pages : S → List Page) (s t : Pool S V) (standing asked : ℕ → Bool) (n : ℕ) (bs : List ℕ) (needs : PageSet)
+module _ {S V : Type 0} {stores : StoreGhosts S} {policies : PolicyGhosts V} (picks : V → List Bool → ℕ → V → Type 0) (touches : V → ℕ → V → Type 0) (pages : S → List Page) (s t : Pool S V stores policies) (standing asked : ℕ → Bool) (n : ℕ) (bs : List ℕ) (needs : PageSet)
     (incoming : Incoming (types s.catalogue) (pages s.store) s.frames n bs)
     (joined : (m : ℕ) → asked m ≡ (holds needs.words m || standing m))
     (own : (m : ℕ) → 0 < m → m ≤ 1024 → holds needs.words m ≡ (eqb m n || links_to (types s.catalogue) (cells_of bs) m))
@@ -69,7 +70,7 @@ module _ {S V : Type 0} (picks : V → List Bool → ℕ → V → Type 0) (touc
         refused e (record { table = z.table; frames = z.frames; store = ap pages z.store }) z.policy
 
 -- a page was read, and then it came in
-pub course_over : {S V : Type 0} (picks : V → List Bool → ℕ → V → Type 0) (touches : V → ℕ → V → Type 0) (pages : S → List Page) (frames : V → ℕ) (s u t : Pool S V) (standing : ℕ → Bool) (n : ℕ) (bs : List ℕ) (r : Checked ℕ)
+pub course_over : {S V : Type 0} {stores : StoreGhosts S} {policies : PolicyGhosts V} (picks : V → List Bool → ℕ → V → Type 0) (touches : V → ℕ → V → Type 0) (pages : S → List Page) (frames : V → ℕ) (s u t : Pool S V stores policies) (standing : ℕ → Bool) (n : ℕ) (bs : List ℕ) (r : Checked ℕ)
     → u.catalogue ≡ s.catalogue → u.table ≡ s.table → pages u.store ≡ pages s.store → u.frames ≡ s.frames → u.pages ≡ s.pages → u.policy ≡ s.policy → u.count ≡ s.count
     → (Tied pages frames u → Incoming (types u.catalogue) (pages u.store) u.frames n bs → Opens picks touches pages standing n u t r)
     → Tied pages frames s → Incoming (types s.catalogue) (pages s.store) s.frames n bs → Opens picks touches pages standing n s t r

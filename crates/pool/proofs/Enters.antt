@@ -17,7 +17,6 @@ use Rattle.frame.specs.declared.frame.Frame.{Frame}
 use Rattle.frame.proofs.Valid.{valid_links}
 use Rattle.store.specs.Pages.{Content, bytes, marked, Whole, Page, no_page, page_at}
 use Rattle.store.specs.Rules.{readable, held_by}
-use Rattle.stands.specs.Frames as over
 use Rattle.stands.specs.Frames.{HasAt, long_cells, long_bytes, stands_for}
 use Rattle.stands.specs.Laws.{Keeps}
 use Rattle.stands.proofs.Cells.{leads_to}

@@ -15,7 +15,7 @@ use Rattle.stands.specs.Frames.{HasAt, Is, long_cells, long_bytes, stands_for}
 use Rattle.stands.proofs.Courses.{shown}
 use Rattle.stands.proofs.Stands.{each_some, saves, clean_all}
 use Rattle.stands.proofs.Layers.{some_inj, none_some, has_within}
-use Rattle.pool.specs.Needs.{asks, needed, Covers}
+use Rattle.pool.specs.Needs.{needed, Covers}
 use Rattle.pool.specs.Leaving.{Empty, put_back}
 use Rattle.pool.specs.Meaning.{Fine}
 use Rattle.pool.specs.Saving.{Clean, Saved}

@@ -9,14 +9,16 @@ use Rattle.page.specs.Walks.{cells_of}
 use Rattle.page.specs.declared.catalogue.ClosedCatalogue.{ClosedCatalogue}
 use Rattle.frame.specs.declared.frame.Frame.{Frame}
 use Rattle.store.specs.Pages.{Page, bytes, page_at}
+use Rattle.store.specs.declared.Store.{Ghosts as StoreGhosts}
+use Rattle.policy.specs.declared.Policy.{Ghosts as PolicyGhosts}
 use Rattle.stands.specs.Frames.{HasAt, Lacks}
 use Rattle.pool.specs.Bringing.{Brought}
 use Rattle.pool.specs.Opening.{wanted_with}
 use Rattle.pool.specs.declared.pool.Pool.{Pool}
 
-module _ {S V : Type 0} (picks : V → List Bool → ℕ → V → Type 0) (touches : V → ℕ → V → Type 0) (pages : S → List Page) where
+module _ {S V : Type 0} {stores : StoreGhosts S} {policies : PolicyGhosts V} (picks : V → List Bool → ℕ → V → Type 0) (touches : V → ℕ → V → Type 0) (pages : S → List Page) where
   -- table, frames and the store's pages are these
-  pub record Still (tab : AddressTable) (fs : List (Option Frame)) (ps : List Page) (t : Pool S V) : Type 0 where
+  pub record Still (tab : AddressTable) (fs : List (Option Frame)) (ps : List Page) (t : Pool S V stores policies) : Type 0 where
     pub table : t.table ≡ tab
     pub frames : t.frames ≡ fs
     pub store : pages t.store ≡ ps
@@ -24,7 +26,7 @@ module _ {S V : Type 0} (picks : V → List Bool → ℕ → V → Type 0) (touc
   -- of a pool with this catalogue, table, frames, policy and pages, where the pages of a set keep their slots
   module _ (cat : ClosedCatalogue) (tab : AddressTable) (fs : List (Option Frame)) (count : ℕ) (pol : V) (ps : List Page) (standing : ℕ → Bool) where
     -- page n was read and came into frame i, which the policy was told last
-    pub record Arrived (n : ℕ) (t : Pool S V) (i : ℕ) : Type 0 where
+    pub record Arrived (n : ℕ) (t : Pool S V stores policies) (i : ℕ) : Type 0 where
       pub lacks : Lacks fs n
       pub held : List ℕ
       pub content : (page_at ps n).content ≡ bytes held
@@ -37,7 +39,7 @@ module _ {S V : Type 0} (picks : V → List Bool → ℕ → V → Type 0) (touc
       pub told : touches brought.last i t.policy
 
     -- opening page n leads to the pool t, and answers the page's frame or a refusal
-    pub data Course (n : ℕ) (t : Pool S V) : Checked ℕ → Type 0 where
+    pub data Course (n : ℕ) (t : Pool S V stores policies) : Checked ℕ → Type 0 where
       -- it was in frame i already, which the policy is told
       resident : (i : ℕ) (f : Frame) → HasAt fs i f → f.page ≡ n → Still tab fs ps t → touches pol i t.policy → Course n t (Ok i)
       arrived : (i : ℕ) → Arrived n t i → Course n t (Ok i)
@@ -45,5 +47,5 @@ module _ {S V : Type 0} (picks : V → List Bool → ℕ → V → Type 0) (touc
       refused : (e : Fault) → Still tab fs ps t → t.policy ≡ pol → Course n t (Err e)
 
   -- opening page n leads from the pool s to the pool t
-  abbrev pub Opens : (ℕ → Bool) → ℕ → Pool S V → Pool S V → Checked ℕ → Type 0
+  abbrev pub Opens : (ℕ → Bool) → ℕ → Pool S V stores policies → Pool S V stores policies → Checked ℕ → Type 0
   Opens standing n s t r = Course s.catalogue s.table s.frames s.count s.policy (pages s.store) standing n t r

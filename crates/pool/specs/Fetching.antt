@@ -1,6 +1,6 @@
 -- What reading and examining a page answers. Assumes nothing.
 use Rattle.std.specs.Prelude.{ℕ, List, length}
-use Rattle.fault.specs.Refusals.{Checked, ◌>>=◌, ◌>>◌}
+use Rattle.fault.specs.Refusals.{Checked, ◌>>◌}
 use Rattle.page.specs.Form.{examined}
 use Rattle.page.specs.declared.descriptor.Descriptor.{Descriptor}
 use Rattle.store.specs.Pages.{Page}

@@ -1,5 +1,5 @@
 -- Victims leave one at a time. Assumes nothing.
-use Rattle.std.specs.Prelude.{◌≡◌, ℕ, ◌<◌, ◌≤◌, Bool, true, false, cond, List, [], ◌∷◌, map, set, is_some, Some, None, Option, ◌≢◌, slice_index_or, slice_set}
+use Rattle.std.specs.Prelude.{◌≡◌, ℕ, ◌<◌, ◌≤◌, Bool, true, false, cond, List, [], ◌∷◌, map, is_some, Some, None, Option, ◌≢◌, slice_index_or, slice_set}
 use Rattle.pageset.specs.Sets.{tally}
 use Rattle.page.specs.Walks.{page_of}
 use Rattle.page.specs.declared.descriptor.Descriptor.{Descriptor}

@@ -4,7 +4,7 @@ use Rattle.std.proofs.lemmas.Bool.{cases_lt}
 use Rattle.frame.specs.declared.frame.Frame.{Frame}
 use Rattle.stands.specs.Frames.{HasAt}
 use Rattle.pool.proofs.pool.Pool.find.Goals as goal
-use Rattle.pool.proofs.pool.Pool.find.Goals.{in-Some+else-frame-n, in-default}
+use Rattle.pool.proofs.pool.Pool.find.Goals.{in-Some+else-frame-n, in_default}
 
 pub returns-then-frame-n : goal.returns-then-frame-n
 returns-then-frame-n g c =
@@ -28,7 +28,7 @@ loop-k-preserved g c =
     (λ f h e.
     elim c.match-held.branch [
       | in-Some+else-frame-n w ↦ w.if-frame-n.false (same_frame (get_or s.frames k None) w.in-Some.frame f (at ∙ w.in-Some.is) h ∙ e)
-      | in-default w ↦ w.in-default.not-Some f (sym at ∙ h)
+      | in_default w ↦ w.in_default.not-Some f (sym at ∙ h)
     ])
 
 pub returns : goal.returns

@@ -6,10 +6,10 @@ use Rattle.stands.proofs.Layers.{some_inj}
 use Rattle.pool.proofs.Looks.{starts_within, header_is, header_declared}
 use Rattle.pool.proofs.pool.Pool.header.Goals as goal
 
-pub returns-then-cell-gt-LAST-CELL : goal.returns-then-cell-gt-LAST-CELL
-returns-then-cell-gt-LAST-CELL g c fine f h e =
+pub returns-then-cell-gt-LAST_CELL : goal.returns-then-cell-gt-LAST_CELL
+returns-then-cell-gt-LAST_CELL g c fine f h e =
     let s = c.args.self.now in
-    absurd (omega (arith, c.if-cell-gt-LAST-CELL.true, starts_within (types s.catalogue) s.table.slot_of s.table.page_of (g.S.Store.pages s.store) s.frames s.pages (g.V.Policy.frames s.policy) s.count fine s.table.within.1.1.0 c.args.k f h c.args.cell e))
+    absurd (omega (arith, c.if-cell-gt-LAST_CELL.true, starts_within (types s.catalogue) s.table.slot_of s.table.page_of (g.S.Store.pages s.store) s.frames s.pages (g.V.Policy.frames s.policy) s.count fine s.table.within.1.1.0 c.args.k f h c.args.cell e))
 
 pub returns-in-Some : goal.returns-in-Some
 returns-in-Some g c fine f h e =

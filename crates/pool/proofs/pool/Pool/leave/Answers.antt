@@ -24,10 +24,15 @@ returns-then-victim-ge-NONE g c =
       pages = refl;
     }
 
-pub invariant-of-self-in-Some : goal.invariant-of-self-in-Some
-invariant-of-self-in-Some g c =
+pub invariant_of-self-in-Some : goal.invariant_of-self-in-Some
+invariant_of-self-in-Some g c =
     let s = c.args.self.now in
-    (length-set s.frames _ _ ∙ s.sized, (s.small, ((λ k l. empty_set s.frames c.victim-victim.result k (s.spare k l)), (covers_less s.table.slot_of s.frames c.victim-victim.result s.covered, tt))))
+    record {
+      sized = length-set s.frames _ _ ∙ s.sized;
+      small = s.small;
+      spare = λ k l. empty_set s.frames c.victim-victim.result k (s.spare k l);
+      covered = covers_less s.table.slot_of s.frames c.victim-victim.result s.covered;
+    }
 
 pub returns-in-None : goal.returns-in-None
 returns-in-None g c =
@@ -57,7 +62,7 @@ returns-in-Some g c =
     record {
       most = omega (arith, c.if-victim-ge-NONE.false);
       frames = refl;
-      noted = c.write-back.ensures ∙ sym (ap (λ (x : Option Frame). put_back (types s.catalogue) s.table.page_of x (g.S.Store.pages s.store)) at);
+      noted = c.write_back.ensures ∙ sym (ap (λ (x : Option Frame). put_back (types s.catalogue) s.table.page_of x (g.S.Store.pages s.store)) at);
       found = λ _. some_held (get_or s.frames v None) c.in-Some.frame at;
       picked = λ _. subst (λ (x : List Bool). g.V.Policy.picks s.policy x v c.victim-victim.new.self) c.occupied-marks.ensures.list c.victim-victim.ensures.picked;
       none = λ _ l. absurd (omega (arith, l, c.if-victim-ge-NONE.false));

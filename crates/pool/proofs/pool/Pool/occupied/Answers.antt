@@ -4,7 +4,7 @@ use Rattle.std.proofs.lemmas.Bool.{cases_lt}
 use Rattle.frame.specs.declared.frame.Frame.{Frame}
 use Rattle.pool.proofs.Frames.{some_held, not_held, held_marks}
 use Rattle.pool.proofs.pool.Pool.occupied.Goals as goal
-use Rattle.pool.proofs.pool.Pool.occupied.Goals.{in-Some, in-default}
+use Rattle.pool.proofs.pool.Pool.occupied.Goals.{in-Some, in_default}
 
 pub loop-k-preserved : goal.loop-k-preserved
 loop-k-preserved g c =
@@ -22,10 +22,10 @@ loop-k-preserved g c =
         (λ j l. rw w.marks-is (get_or-set_other ms k j true false (λ e. omega (arith, e, l)) ∙ v.1 j (omega (arith, l)))),
         rw w.marks-is (length-set ms k true ∙ v.2),
       )
-      | in-default w ↦ (
+      | in_default w ↦ (
         below_more (λ j. get_or c.match-held.marks j false ≡ is_some (get_or s.frames j None)) k
             (λ j l. rw w.marks-is (v.0 j l))
-            (rw w.marks-is (v.1 k (omega arith) ∙ sym (not_held (get_or s.frames k None) (λ p e. w.in-default.not-Some p (sym at ∙ e))))),
+            (rw w.marks-is (v.1 k (omega arith) ∙ sym (not_held (get_or s.frames k None) (λ p e. w.in_default.not-Some p (sym at ∙ e))))),
         (λ j l. rw w.marks-is (v.1 j (omega (arith, l)))),
         rw w.marks-is v.2,
       )

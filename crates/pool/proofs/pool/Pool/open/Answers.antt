@@ -28,21 +28,21 @@ returns-then-held-lt-NONE g c =
       pages = refl;
     }
 
-pub returns-in-err-fetch : goal.returns-in-err-fetch
-returns-in-err-fetch g c =
+pub returns-in_err-fetch : goal.returns-in_err-fetch
+returns-in_err-fetch g c =
     let s = c.args.self.now in
     let u = c.fetch.new.self in
     let f = c.fetch.ensures in
-    let q = err_from_is_err_and c.from-residual.result c.from-residual.ensures.1 in
-    let e = c.in-err-fetch.field-0.0 in
+    let q = err_from_is_err_and c.from_residual.result c.from_residual.ensures.1 in
+    let e = c.in_err-fetch.field-0.0 in
     let ts = types s.catalogue in
     let ps = g.S.Store.pages s.store in
     let standing = holds c.args.standing.now.words in
     let told = g.V.Policy.frames s.policy in
     record {
-      opened = λ fine page stand. opened_to ts s.table.slots s.table u.table ps (g.S.Store.pages u.store) s.frames u.frames s.pages told s.count standing c.args.n (Err e) c.from-residual.result
+      opened = λ fine page stand. opened_to ts s.table.slots s.table u.table ps (g.S.Store.pages u.store) s.frames u.frames s.pages told s.count standing c.args.n (Err e) c.from_residual.result
           f.table f.same f.frames (q.1 ∙ ap Err q.2)
-          (fetch_refused g.S.Store.layer ts ps c.args.n (replicate 512 0) (length-replicate {A = ℕ} 512 0) page s.table.slots standing s.table.slot_of s.table.page_of s.frames s.pages told s.count e fine (c.find-held.ensures.none (omega arith)) (g.S.Store.laws.whole s.store c.args.n) (sym c.in-err-fetch.ensures.value));
+          (fetch_refused g.S.Store.layer ts ps c.args.n (replicate 512 0) (length-replicate {A = ℕ} 512 0) page s.table.slots standing s.table.slot_of s.table.page_of s.frames s.pages told s.count e fine (c.find-held.ensures.none (omega arith)) (g.S.Store.laws.whole s.store c.args.n) (sym c.in_err-fetch.ensures.value));
       course = λ fine page. subst (λ (r : Checked ℕ). Opens g.V.Policy.picks g.V.Policy.touches g.S.Store.pages standing c.args.n s u r) (sym q.1)
           (refused q.0 (record { table = f.table; frames = f.frames; store = f.same }) f.policy);
       policy = ap (λ x. g.V.Policy.frames x) f.policy;
@@ -65,12 +65,12 @@ returns g c =
           f.catalogue f.table f.same f.frames f.pages (ap (λ x. g.V.Policy.frames x) f.policy) f.count
           e.opened fine
           (subst (λ (bs : List ℕ). Incoming (types s.catalogue) (g.S.Store.pages s.store) s.frames c.args.n bs) (sym f.buffer)
-          (fetched_incoming g.S.Store.layer (types s.catalogue) (g.S.Store.pages s.store) c.args.n (replicate 512 0) (length-replicate {A = ℕ} 512 0) page s.frames s.pages fine.counted (c.find-held.ensures.none (omega arith)) (g.S.Store.laws.whole s.store c.args.n) (sym c.in-ok-fetch.ensures.value)));
+          (fetched_incoming g.S.Store.layer (types s.catalogue) (g.S.Store.pages s.store) c.args.n (replicate 512 0) (length-replicate {A = ℕ} 512 0) page s.frames s.pages fine.counted (c.find-held.ensures.none (omega arith)) (g.S.Store.laws.whole s.store c.args.n) (sym c.in_ok-fetch.ensures.value)));
       course = λ fine page. course_over g.V.Policy.picks g.V.Policy.touches g.S.Store.pages g.V.Policy.frames s u v (holds c.args.standing.now.words) c.args.n _ c.enter.result
           f.catalogue f.table f.same f.frames f.pages f.policy f.count
           e.course fine
           (subst (λ (bs : List ℕ). Incoming (types s.catalogue) (g.S.Store.pages s.store) s.frames c.args.n bs) (sym f.buffer)
-          (fetched_incoming g.S.Store.layer (types s.catalogue) (g.S.Store.pages s.store) c.args.n (replicate 512 0) (length-replicate {A = ℕ} 512 0) page s.frames s.pages fine.counted (c.find-held.ensures.none (omega arith)) (g.S.Store.laws.whole s.store c.args.n) (sym c.in-ok-fetch.ensures.value)));
+          (fetched_incoming g.S.Store.layer (types s.catalogue) (g.S.Store.pages s.store) c.args.n (replicate 512 0) (length-replicate {A = ℕ} 512 0) page s.frames s.pages fine.counted (c.find-held.ensures.none (omega arith)) (g.S.Store.laws.whole s.store c.args.n) (sym c.in_ok-fetch.ensures.value)));
       policy = e.policy ∙ ap (λ x. g.V.Policy.frames x) f.policy;
       slots = e.slots ∙ ap (λ (x : AddressTable). x.slots) f.table;
       catalogue = e.catalogue ∙ f.catalogue;

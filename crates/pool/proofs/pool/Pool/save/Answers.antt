@@ -1,4 +1,4 @@
-use Rattle.std.proofs.Common.{ℕ, ◌<◌, ◌≤◌, get_or, None, sym, refl, ap, ◌∙◌, ⊎_elim, arith}
+use Rattle.std.proofs.Common.{get_or, None, refl, ap, ◌∙◌, arith}
 use Rattle.address.specs.declared.table.AddressTable.{AddressTable}
 use Rattle.page.specs.Types.{types}
 use Rattle.page.specs.declared.catalogue.ClosedCatalogue.{ClosedCatalogue}
@@ -11,10 +11,10 @@ pub loop-k-preserved : goal.loop-k-preserved
 loop-k-preserved g c =
     let e = c.args.self.now in
     let s = c.loop-k.self in
-    let u = c.save-frame.new.self in
+    let u = c.save_frame.new.self in
     let k = c.loop-k.k in
     let v = c.loop-k.invariant in
-    let x = c.save-frame.ensures in
+    let x = c.save_frame.ensures in
     let ts = types e.catalogue in
     let pages = g.S.Store.pages in (
       x.catalogue ∙ v.0,

@@ -11,6 +11,6 @@ returns-in-Some g c fine f h =
     let s = c.args.self.now in
     let ts = types s.catalogue in
     let is = some_inj (get_or s.frames c.args.k None) c.in-Some.frame f (sym c.held.ensures ∙ c.in-Some.is) h in
-    c.starts-at.ensures.value
+    c.starts_at.ensures.value
     ∙ ap (λ (x : Frame). get_or (start_cells ts x.cells) c.args.cell false) is
     ∙ same_starts ts s.table.slot_of s.table.page_of f c.args.cell (fine.sound.frames c.args.k f h) s.table.within.1.1.0 f.small

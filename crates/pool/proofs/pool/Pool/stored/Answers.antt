@@ -9,7 +9,7 @@ use Rattle.stands.specs.Frames.{long_bytes}
 use Rattle.stands.proofs.Layers.{some_inj}
 use Rattle.pool.proofs.Looks.{field_within, field_stored}
 use Rattle.pool.proofs.pool.Pool.stored.Goals as goal
-use Rattle.pool.proofs.pool.Pool.stored.Goals.{then-cell-gt-LAST-CELL-via-then-cell-gt-LAST-CELL, then-cell-gt-LAST-CELL-via-else-cell-gt-LAST-CELL+then-field-cell}
+use Rattle.pool.proofs.pool.Pool.stored.Goals.{then-cell-gt-LAST_CELL-via-then-cell-gt-LAST_CELL, then-cell-gt-LAST_CELL-via-else-cell-gt-LAST_CELL+then-field-cell}
 
 pub returns-in-Some : goal.returns-in-Some
 returns-in-Some g c fine f h e l =
@@ -20,16 +20,16 @@ returns-in-Some g c fine f h e l =
     let page = s.table.page_of in
     let ts = types s.catalogue in
     let y : ℕ = get_or c.in-Some.frame.cells (n + 1 + i) 0 in
-    c.to-pointer.ensures
-    ∙ ap (λ b. cond b (pointer page y) y) (c.is-link.ensures ∙ ap (λ (d : Descriptor). linked d i) (c.kind.ensures fine f h e))
+    c.to_pointer.ensures
+    ∙ ap (λ b. cond b (pointer page y) y) (c.is_link.ensures ∙ ap (λ (d : Descriptor). linked d i) (c.kind.ensures fine f h e))
     ∙ ap (λ (x : Frame). cond (linked (type_at ts (long_bytes ts page f) n) i) (pointer page (get_or x.cells (n + 1 + i) 0)) (get_or x.cells (n + 1 + i) 0)) is
     ∙ field_stored (types s.catalogue) s.table.slot_of page (g.S.Store.pages s.store) s.frames s.pages (g.V.Policy.frames s.policy) s.count fine s.table.within.1.1.0 c.args.k f h n i e l
 
-pub returns-then-cell-gt-LAST-CELL : goal.returns-then-cell-gt-LAST-CELL
-returns-then-cell-gt-LAST-CELL g c fine f h e l =
+pub returns-then-cell-gt-LAST_CELL : goal.returns-then-cell-gt-LAST_CELL
+returns-then-cell-gt-LAST_CELL g c fine f h e l =
     let s = c.args.self.now in
     let w = field_within (types s.catalogue) s.table.slot_of s.table.page_of (g.S.Store.pages s.store) s.frames s.pages (g.V.Policy.frames s.policy) s.count fine s.table.within.1.1.0 c.args.k f h c.args.cell c.args.field e l in
-    elim c.then-cell-gt-LAST-CELL.branch [
-      | then-cell-gt-LAST-CELL-via-then-cell-gt-LAST-CELL x ↦ absurd (omega (arith, w, x.if-cell-gt-LAST-CELL.true))
-      | then-cell-gt-LAST-CELL-via-else-cell-gt-LAST-CELL+then-field-cell x ↦ absurd (omega (arith, w, x.if-cell-gt-LAST-CELL.false, x.if-field-cell.true))
+    elim c.then-cell-gt-LAST_CELL.branch [
+      | then-cell-gt-LAST_CELL-via-then-cell-gt-LAST_CELL x ↦ absurd (omega (arith, w, x.if-cell-gt-LAST_CELL.true))
+      | then-cell-gt-LAST_CELL-via-else-cell-gt-LAST_CELL+then-field-cell x ↦ absurd (omega (arith, w, x.if-cell-gt-LAST_CELL.false, x.if-field-cell.true))
     ]

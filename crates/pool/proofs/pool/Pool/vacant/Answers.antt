@@ -12,4 +12,4 @@ loop-k-preserved g c =
     let h : k < length s.frames = omega (arith, s.sized, s.small) in
     let at = get_or_default s.frames k None c.index-self-k.result h in
     below_more (λ j. Empty s.frames j → ⊥) k c.loop-k.invariant
-    (λ e. both_ways _ e (ap (λ (x : Option Frame). is_some x) at ∙ c.is-none.ensures ∙ ap not c.if-is-none.false))
+    (λ e. both_ways _ e (ap (λ (x : Option Frame). is_some x) at ∙ c.is_none.ensures ∙ ap not c.if-is_none.false))

@@ -5,7 +5,7 @@ use Rattle.frame.specs.declared.frame.Frame.{Frame}
 use Rattle.pool.specs.Needs.{needed}
 use Rattle.pool.proofs.Frames.{need_turn, some_asks, not_held, pass_asks}
 use Rattle.pool.proofs.pool.Pool.whole.Goals as goal
-use Rattle.pool.proofs.pool.Pool.whole.Goals.{in-Some, in-default}
+use Rattle.pool.proofs.pool.Pool.whole.Goals.{in-Some, in_default}
 
 pub loop-k-preserved : goal.loop-k-preserved
 loop-k-preserved g c =
@@ -17,8 +17,8 @@ loop-k-preserved g c =
     elim c.match-held.branch [
       | in-Some w ↦
           λ n. rw w.pages-is (need_turn s.frames k n _ _ _ h (v n) (w.union-pages.ensures n ∙ ap (λ b. holds c.loop-k.pages.words n || b) (sym (some_asks (get_or s.frames k None) w.in-Some.frame n (at ∙ w.in-Some.is)))))
-      | in-default w ↦
-          λ n. rw w.pages-is (need_turn s.frames k n _ _ _ h (v n) (pass_asks (get_or s.frames k None) n _ (not_held (get_or s.frames k None) (λ p e. w.in-default.not-Some p (sym at ∙ e)))))
+      | in_default w ↦
+          λ n. rw w.pages-is (need_turn s.frames k n _ _ _ h (v n) (pass_asks (get_or s.frames k None) n _ (not_held (get_or s.frames k None) (λ p e. w.in_default.not-Some p (sym at ∙ e)))))
     ]
 
 pub returns : goal.returns
