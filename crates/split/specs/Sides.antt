@@ -43,8 +43,8 @@ closed_at n (Ok x) = Ok tt
 closed_at n (Err e) = Err (fault PageClosed 7 (on_page n))
 
 -- both parts mean what they meant, and keep what they kept
-pub record Still {A B : Type 0} (pagesA : A → List Page) (pagesB : B → List Page) (keptA : A → Kept) (keptB : B → Kept) (s t : Split A B) : Type 0 where
-  pub first : pagesA t.first ≡ pagesA s.first
-  pub second : pagesB t.second ≡ pagesB s.second
-  pub kept_first : keptA t.first ≡ keptA s.first
-  pub kept_second : keptB t.second ≡ keptB s.second
+pub record Still {A B : Type 0} (pages_a : A → List Page) (pages_b : B → List Page) (kept_a : A → Kept) (kept_b : B → Kept) (s t : Split A B) : Type 0 where
+  pub first : pages_a t.first ≡ pages_a s.first
+  pub second : pages_b t.second ≡ pages_b s.second
+  pub kept_first : kept_a t.first ≡ kept_a s.first
+  pub kept_second : kept_b t.second ≡ kept_b s.second
