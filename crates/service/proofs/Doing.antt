@@ -25,6 +25,8 @@ use Rattle.service.specs.Serving.{setting_of, owners, Kept, graph_of, InOrder}
 use Rattle.service.specs.declared.service.Service.{Service}
 use Rattle.service.proofs.Holds.{limits, holding}
 use Rattle.service.proofs.Reach.{ok_err}
+use Rattle.store.specs.declared.Store.{Ghosts as StoreGhosts}
+use Rattle.policy.specs.declared.Policy.{Ghosts as PolicyGhosts}
 
 module _ (s : Setting) (g : Graph) (e : Fault) where
   refused_is : (c : Call) → granted s g c ≡ Err e → Refused e ≡ (step s g c).0
@@ -46,17 +48,17 @@ module _ (s : Setting) (g : Graph) (e : Fault) where
   refusal_shown owner (Slot i) h = absurd (ok_err _ e (sym h))
   refusal_shown owner Save h = absurd (ok_err _ e (sym h))
 
-module _ {S V : Type 0} {picks : V → List Bool → ℕ → V → Type 0} {touches : V → ℕ → V → Type 0} {pages : S → List Page} where
-  pub moves_to : {P : ℕ → Type 0} (Q : ℕ → Type 0) {cs : List (Option Position)} {p q : Pool S V} → ((n : ℕ) → P n → Q n) → Moves picks touches pages P cs p q → Moves picks touches pages Q cs p q
+module _ {S V : Type 0} {stores : StoreGhosts S} {policies : PolicyGhosts V} {picks : V → List Bool → ℕ → V → Type 0} {touches : V → ℕ → V → Type 0} {pages : S → List Page} where
+  pub moves_to : {P : ℕ → Type 0} (Q : ℕ → Type 0) {cs : List (Option Position)} {p q : Pool S V stores policies} → ((n : ℕ) → P n → Q n) → Moves picks touches pages P cs p q → Moves picks touches pages Q cs p q
   moves_to Q f (rests p) = rests p
   moves_to Q f (opens n p q t standing r may agree course more) = opens n p q t standing r (f n may) agree course (moves_to Q f more)
 
-  pub moves_on : {P : ℕ → Type 0} {cs : List (Option Position)} {p q t : Pool S V} → Moves picks touches pages P cs p q → Moves picks touches pages P cs q t → Moves picks touches pages P cs p t
+  pub moves_on : {P : ℕ → Type 0} {cs : List (Option Position)} {p q t : Pool S V stores policies} → Moves picks touches pages P cs p q → Moves picks touches pages P cs q t → Moves picks touches pages P cs p t
   moves_on (rests p) more = more
   moves_on (opens n p q t standing r may agree course rest) more = opens n p q _ standing r may agree course (moves_on rest more)
 
-module _ {S V : Type 0} (picks : V → List Bool → ℕ → V → Type 0) (touches : V → ℕ → V → Type 0) (pages : S → List Page) (frames : V → ℕ) (few : (x : S) → length (pages x) ≤ 1024) (whole : (x : S) (n : ℕ) → Whole (page_at (pages x) n).content)
-    (s t : Service S V) (c : Call) (order : InOrder pages frames s) (kept : Kept s t)
+module _ {S V : Type 0} {stores : StoreGhosts S} {policies : PolicyGhosts V} (picks : V → List Bool → ℕ → V → Type 0) (touches : V → ℕ → V → Type 0) (pages : S → List Page) (frames : V → ℕ) (few : (x : S) → length (pages x) ≤ 1024) (whole : (x : S) (n : ℕ) → Whole (page_at (pages x) n).content)
+    (s t : Service S V stores policies) (c : Call) (order : InOrder pages frames s) (kept : Kept s t)
   where
     abbrev Path : Type 0
     Path = Moves picks touches pages (openings.Opens (setting_of s) (graph_of pages s) c) s.cursors s.pool t.pool

@@ -22,6 +22,8 @@ use Rattle.pool.proofs.Opens.{cells_long, length_long, needed_at}
 use Rattle.pool.proofs.Enters.{is_there}
 use Rattle.service.specs.Serving.{setting_of, graph_of, InOrder, Framed, Holding}
 use Rattle.service.specs.declared.service.Service.{Service}
+use Rattle.store.specs.declared.Store.{Ghosts as StoreGhosts}
+use Rattle.policy.specs.declared.Policy.{Ghosts as PolicyGhosts}
 
 -- a cursor's page is on a cursor
 pub on_at : (cs : List (Option Position)) (c : ℕ) (at : Position) → get_or cs c None ≡ Some at → on_cursor cs at.page ≡ true
@@ -70,15 +72,15 @@ none_at (suc k) (suc c) at e = none_at k c at e
 pub few_types : (k : ClosedCatalogue) → length (types k) ≤ 32
 few_types k = omega (arith, length-take k.table.count k.table.descriptors, k.table.long)
 
-module _ {S V : Type 0} (pages : S → List Page) (frames : V → ℕ) where
-  pub new_order : (s : Service S V) → s.cursors ≡ replicate 16 None → Tied pages frames s.pool → InOrder pages frames s
+module _ {S V : Type 0} {stores : StoreGhosts S} {policies : PolicyGhosts V} (pages : S → List Page) (frames : V → ℕ) where
+  pub new_order : (s : Service S V stores policies) → s.cursors ≡ replicate 16 None → Tied pages frames s.pool → InOrder pages frames s
   new_order s e tied = record {
     pool = tied;
     stand = λ c at h. absurd (none_at 16 c at (ap (λ (cs : List (Option Position)). get_or cs c None) (sym e) ∙ h));
     covered = λ n _ _ h. absurd (both_ways (on_cursor (replicate 16 None) n) (none_on 16 n) (ap (λ (cs : List (Option Position)). on_cursor cs n) (sym e) ∙ h));
   }
 
-  module _ (few : (x : S) → length (pages x) ≤ 1024) (q : Pool S V) (tied : Tied pages frames q) where
+  module _ (few : (x : S) → length (pages x) ≤ 1024) (q : Pool S V stores policies) (tied : Tied pages frames q) where
     pub as_many : length (stood_for pages q) ≡ length (pages q.store)
     as_many = (shown (types q.catalogue) q.table.slot_of q.table.page_of (pages q.store) q.frames tied.sound).many
 
@@ -101,7 +103,7 @@ module _ {S V : Type 0} (pages : S → List Page) (frames : V → ℕ) where
         (λ (l : Lacks q.frames n). subst (λ (x : Page). Whole x.content) (sym (sh.free n l)) (whole q.store n))
         (holder q.frames n)
 
-  module _ (few : (x : S) → length (pages x) ≤ 1024) (s : Service S V) (order : InOrder pages frames s) where
+  module _ (few : (x : S) → length (pages x) ≤ 1024) (s : Service S V stores policies) (order : InOrder pages frames s) where
     pub limits : ((x : S) (n : ℕ) → Whole (page_at (pages x) n).content) → Limits (setting_of s) (graph_of pages s).pages
     limits whole = record {
       types = few_types s.pool.catalogue;

@@ -27,6 +27,8 @@ use Rattle.service.specs.Inner.{Came}
 use Rattle.service.specs.Serving.{setting_of, graph_of, InOrder, Kept}
 use Rattle.service.specs.declared.service.Service.{Service}
 use Rattle.service.proofs.Holds.{as_many}
+use Rattle.store.specs.declared.Store.{Ghosts as StoreGhosts}
+use Rattle.policy.specs.declared.Policy.{Ghosts as PolicyGhosts}
 
 bind_same : {A B : Type 0} (r : Checked A) (f h : A → Checked B) → ((x : A) → f x ≡ h x) → (r >>= f) ≡ (r >>= h)
 bind_same (Ok x) f h e = e x
@@ -50,8 +52,8 @@ opening_same ts a g standing n agree =
     (λ bs. ap (λ x. first_fault (length g.pages) n bs ts >> ((leb x a else fault NoAddresses 4 (on_page n)) >> Ok bs))
     (tally_same (wanted_with ts standing n bs) (wanted s g n bs) 1024 (λ m low high. ap (λ b. b || (eqb m n || links_to ts (cells_of bs) m)) (agree m low high))))
 
-module _ {S V : Type 0} (picks : V → List Bool → ℕ → V → Type 0) (touches : V → ℕ → V → Type 0) (pages : S → List Page) (frames : V → ℕ) (few : (x : S) → length (pages x) ≤ 1024)
-    (s t : Service S V) (cursors : t.cursors ≡ s.cursors) (kept : Kept s t) (known : t.pool.pages ≡ s.pool.pages) (told : frames t.pool.policy ≡ frames s.pool.policy)
+module _ {S V : Type 0} {stores : StoreGhosts S} {policies : PolicyGhosts V} (picks : V → List Bool → ℕ → V → Type 0) (touches : V → ℕ → V → Type 0) (pages : S → List Page) (frames : V → ℕ) (few : (x : S) → length (pages x) ≤ 1024)
+    (s t : Service S V stores policies) (cursors : t.cursors ≡ s.cursors) (kept : Kept s t) (known : t.pool.pages ≡ s.pool.pages) (told : frames t.pool.policy ≡ frames s.pool.policy)
   where
     abbrev k : ClosedCatalogue
     k = s.pool.catalogue
@@ -112,5 +114,5 @@ module _ {S V : Type 0} (picks : V → List Bool → ℕ → V → Type 0) (touc
           → is_page (graph_of pages s).pages n ≡ true → Came picks touches pages frames s t n r
       came_all o c page = came_by (o order.pool (page_there page) covers_standing) (c order.pool (page_there page))
 
-pub kept_by : {S V : Type 0} (s t : Service S V) → t.pool.catalogue ≡ s.pool.catalogue → t.pool.table.slots ≡ s.pool.table.slots → t.pool.count ≡ s.pool.count → Kept s t
+pub kept_by : {S V : Type 0} {stores : StoreGhosts S} {policies : PolicyGhosts V} (s t : Service S V stores policies) → t.pool.catalogue ≡ s.pool.catalogue → t.pool.table.slots ≡ s.pool.table.slots → t.pool.count ≡ s.pool.count → Kept s t
 kept_by s t a b c = record { catalogue = a; addresses = b; frames = c }

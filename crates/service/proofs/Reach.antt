@@ -30,6 +30,8 @@ use Rattle.service.specs.Inner.{asks, bytes_in, Object, spotted, Came, Reached}
 use Rattle.service.specs.Serving.{setting_of, graph_of, InOrder, Kept}
 use Rattle.service.specs.declared.service.Service.{Service}
 use Rattle.service.specs.declared.service.reach.Spot.{Spot}
+use Rattle.store.specs.declared.Store.{Ghosts as StoreGhosts}
+use Rattle.policy.specs.declared.Policy.{Ghosts as PolicyGhosts}
 
 -- a chain of refusals
 pub bind_ok : {A B : Type 0} (r : Checked A) (f : A → Checked B) (x : A) → r ≡ Ok x → (r >>= f) ≡ f x
@@ -80,7 +82,7 @@ pub stood : (o : Option Position) (e : Fault) (at : Position) → (o otherwise e
 stood None e at h = absurd (ok_err at e h)
 stood (Some x) e at h = let z : x ≡ at = cc in ap (λ (y : Position). Some y) z
 
-module _ {S V : Type 0} (picks : V → List Bool → ℕ → V → Type 0) (touches : V → ℕ → V → Type 0) (pages : S → List Page) (frames : V → ℕ) (s : Service S V) (c : ℕ) (order : InOrder pages frames s) where
+module _ {S V : Type 0} {stores : StoreGhosts S} {policies : PolicyGhosts V} (picks : V → List Bool → ℕ → V → Type 0) (touches : V → ℕ → V → Type 0) (pages : S → List Page) (frames : V → ℕ) (s : Service S V stores policies) (c : ℕ) (order : InOrder pages frames s) where
   -- a cursor's page is there
   pub cursor_page : (at : Position) → get_or s.cursors c None ≡ Some at → is_page (graph_of pages s).pages at.page ≡ true
   cursor_page at e =
@@ -106,7 +108,7 @@ module _ {S V : Type 0} (picks : V → List Bool → ℕ → V → Type 0) (touc
       moves = rests s.pool;
     }
 
-    module _ (t : Service S V) (at : Position) (at_c : get_or s.cursors c None ≡ Some at) where
+    module _ (t : Service S V stores policies) (at : Position) (at_c : get_or s.cursors c None ≡ Some at) where
       abbrev May : ℕ → Type 0
       May n = (x : Position) × ((get_or s.cursors c None ≡ Some x) × (n ≡ x.page))
 

@@ -36,15 +36,17 @@ use Rattle.service.proofs.Doing.{moves_to, moves_on, refuses, grants}
 use Rattle.service.proofs.Holds.{as_many, framed_slot, on_left, on_put}
 use Rattle.service.proofs.Reach.{bind_ok, bind_err, then_ok, then_err, else_ok, else_err}
 use Rattle.service.proofs.Telling.{cursor_known, path, field_is, link_is, refused_field}
+use Rattle.store.specs.declared.Store.{Ghosts as StoreGhosts}
+use Rattle.policy.specs.declared.Policy.{Ghosts as PolicyGhosts}
 
 pub then_later : {A B : Type 0} (r : Checked A) (f : A → Checked (Unit {0})) (q : Checked B) → (r >>= (λ x. f x >> q)) ≡ ((r >>= f) >> q)
 then_later (Ok x) f q = refl
 then_later (Err e) f q = refl
 
-pub kept_on : {S V : Type 0} (s u t : Service S V) → Kept s u → Kept u t → Kept s t
+pub kept_on : {S V : Type 0} {stores : StoreGhosts S} {policies : PolicyGhosts V} (s u t : Service S V stores policies) → Kept s u → Kept u t → Kept s t
 kept_on s u t a b = record { catalogue = b.catalogue ∙ a.catalogue; addresses = b.addresses ∙ a.addresses; frames = b.frames ∙ a.frames }
 
-pub same_setting : {S V : Type 0} (s t : Service S V) → Kept s t → setting_of t ≡ setting_of s
+pub same_setting : {S V : Type 0} {stores : StoreGhosts S} {policies : PolicyGhosts V} (s t : Service S V stores policies) → Kept s t → setting_of t ≡ setting_of s
 same_setting s t k =
     ap (λ (x : ClosedCatalogue). record { types = types x; addresses = t.pool.table.slots }) k.catalogue
     ∙ ap (λ (a : ℕ). record { types = types s.pool.catalogue; addresses = a }) k.addresses
@@ -57,9 +59,9 @@ covers_put slot cs c at covered h m low high e =
 pub covers_left : (slot : List ℕ) (cs : List (Option Position)) (c : ℕ) → Covers slot (on_cursor cs) → Covers slot (on_cursor (set cs c None))
 covers_left slot cs c covered m low high e = covered m low high (on_left cs c m e)
 
-module _ {S V : Type 0} (picks : V → List Bool → ℕ → V → Type 0) (touches : V → ℕ → V → Type 0) (pages : S → List Page) (frames : V → ℕ) (few : (x : S) → length (pages x) ≤ 1024) where
+module _ {S V : Type 0} {stores : StoreGhosts S} {policies : PolicyGhosts V} (picks : V → List Bool → ℕ → V → Type 0) (touches : V → ℕ → V → Type 0) (pages : S → List Page) (frames : V → ℕ) (few : (x : S) → length (pages x) ≤ 1024) where
   -- whether there is a page, as the pool tells it
-  module _ (s : Service S V) (order : InOrder pages frames s) (n : ℕ) (b : Bool) (told : b ≡ (ltb 0 n && leb n s.pool.pages)) where
+  module _ (s : Service S V stores policies) (order : InOrder pages frames s) (n : ℕ) (b : Bool) (told : b ≡ (ltb 0 n && leb n s.pool.pages)) where
     has_page : b ≡ is_page (graph_of pages s).pages n
     has_page = told ∙ ap (λ x. ltb 0 n && leb n x) (order.pool.counted ∙ sym (as_many pages frames few s.pool order.pool))
 
@@ -69,7 +71,7 @@ module _ {S V : Type 0} (picks : V → List Bool → ℕ → V → Type 0) (touc
     pub page_missing : b ≡ false → Err (fault NoPage 2 (on_page n)) ≡ steps.page (setting_of s) (graph_of pages s) n
     page_missing h = sym (else_err (is_page (graph_of pages s).pages n) _ (sym has_page ∙ h))
 
-  module _ (s t : Service S V) (at : Position) (kept : Kept s t) where
+  module _ (s t : Service S V stores policies) (at : Position) (kept : Kept s t) where
     entering : (r : Checked ℕ) → Came picks touches pages frames s t at.page r → Moves picks touches pages (λ n. n ≡ at.page) s.cursors s.pool t.pool
     entering r w = opens at.page s.pool t.pool t.pool w.standing r refl w.agree w.course (rests t.pool)
 
@@ -177,28 +179,28 @@ module _ (s : Setting) (g : Graph) where
           ∙ ap (λ (b : Bool). steps.done s g ((b else fault AbsentLink 2 (on_spot o)) >> steps.along (on_spot o) (opening s g (pointed (held o)).page >>= (λ bs. steps.object s g bs (pointed (held o)) >> Ok (steps.placed s g d (Some (pointed (held o)))))))) (lt-ltb 0 (held o) h)
           ∙ ap (λ (q : Checked Graph). steps.done s g (steps.along (on_spot o) q)) (then_later (opening s g (pointed (held o)).page) (λ bs. steps.object s g bs (pointed (held o))) (Ok (steps.placed s g d (Some (pointed (held o))))) ∙ ap (λ (q : Checked (Unit {0})). q >> Ok (steps.placed s g d (Some (pointed (held o))))) w)
 
-module _ {S V : Type 0} (picks : V → List Bool → ℕ → V → Type 0) (touches : V → ℕ → V → Type 0) (pages : S → List Page) (frames : V → ℕ) (few : (x : S) → length (pages x) ≤ 1024) (whole : (x : S) (n : ℕ) → Whole (page_at (pages x) n).content)
-    (s : Service S V) (order : InOrder pages frames s)
+module _ {S V : Type 0} {stores : StoreGhosts S} {policies : PolicyGhosts V} (picks : V → List Bool → ℕ → V → Type 0) (touches : V → ℕ → V → Type 0) (pages : S → List Page) (frames : V → ℕ) (few : (x : S) → length (pages x) ≤ 1024) (whole : (x : S) (n : ℕ) → Whole (page_at (pages x) n).content)
+    (s : Service S V stores policies) (order : InOrder pages frames s)
   where
     -- a cursor is set after the openings
-    module _ (u t : Service S V) (after : InOrder pages frames u) (graph : graph_of pages u ≡ graph_of pages s) (kept : Kept s u) (pool : t.pool ≡ u.pool) (d : ℕ) (v : Option Position) (cursors : t.cursors ≡ set u.cursors d v) (call : Call) where
+    module _ (u t : Service S V stores policies) (after : InOrder pages frames u) (graph : graph_of pages u ≡ graph_of pages s) (kept : Kept s u) (pool : t.pool ≡ u.pool) (d : ℕ) (v : Option Position) (cursors : t.cursors ≡ set u.cursors d v) (call : Call) where
       placed_graph : graph_of pages t ≡ steps.placed (setting_of s) (graph_of pages s) d v
       placed_graph =
-          ap (λ (q : Pool S V). record { pages = stood_for pages q; cursors = t.cursors }) pool
+          ap (λ (q : Pool S V stores policies). record { pages = stood_for pages q; cursors = t.cursors }) pool
           ∙ ap (λ (cs : List (Option Position)). record { pages = (graph_of pages u).pages; cursors = cs }) cursors
           ∙ ap (λ (h : Graph). record { pages = h.pages; cursors = set h.cursors d v }) graph
 
       pub placed : Moves picks touches pages (openings.Opens (setting_of s) (graph_of pages s) call) s.cursors s.pool u.pool → Covers u.pool.table.slot_of (on_cursor (set u.cursors d v)) → granted (setting_of s) (graph_of pages s) call ≡ Ok (Done, steps.placed (setting_of s) (graph_of pages s) d v) → Shown (owners t) call (Granted Done) (Granted Done) → Did picks touches pages frames s t call (Granted Done)
       placed path covered h shows =
           grants picks touches pages frames few whole s t call order
-          (subst (λ (q : Pool S V). (q.catalogue ≡ s.pool.catalogue) × (q.table.slots ≡ s.pool.table.slots) × (q.count ≡ s.pool.count) → Kept s t) pool (λ x. record { catalogue = x.0; addresses = x.1; frames = x.2 }) (kept.catalogue, kept.addresses, kept.frames))
+          (subst (λ (q : Pool S V stores policies). (q.catalogue ≡ s.pool.catalogue) × (q.table.slots ≡ s.pool.table.slots) × (q.count ≡ s.pool.count) → Kept s t) pool (λ x. record { catalogue = x.0; addresses = x.1; frames = x.2 }) (kept.catalogue, kept.addresses, kept.frames))
           Done (steps.placed (setting_of s) (graph_of pages s) d v) (Granted Done) h placed_graph
-          (subst (λ (q : Pool S V). Tied pages frames q) (sym pool) after.pool)
-          (subst (λ (q : Pool S V). Covers q.table.slot_of (on_cursor t.cursors)) (sym pool) (subst (λ (cs : List (Option Position)). Covers u.pool.table.slot_of (on_cursor cs)) (sym cursors) covered))
-          (subst (λ (q : Pool S V). Moves picks touches pages (openings.Opens (setting_of s) (graph_of pages s) call) s.cursors s.pool q) (sym pool) path)
+          (subst (λ (q : Pool S V stores policies). Tied pages frames q) (sym pool) after.pool)
+          (subst (λ (q : Pool S V stores policies). Covers q.table.slot_of (on_cursor t.cursors)) (sym pool) (subst (λ (cs : List (Option Position)). Covers u.pool.table.slot_of (on_cursor cs)) (sym cursors) covered))
+          (subst (λ (q : Pool S V stores policies). Moves picks touches pages (openings.Opens (setting_of s) (graph_of pages s) call) s.cursors s.pool q) (sym pool) path)
           shows
 
-    module _ (t : Service S V) (c n k j : ℕ) (cell : j ≡ first k) (kept : Kept s t) (known : c ≤ 15) (page : steps.page (setting_of s) (graph_of pages s) n ≡ Ok tt) (there : is_page (graph_of pages s).pages n ≡ true) (r : Checked (Unit {0})) (w : Entered picks touches pages frames s t (position n j) r) where
+    module _ (t : Service S V stores policies) (c n k j : ℕ) (cell : j ≡ first k) (kept : Kept s t) (known : c ≤ 15) (page : steps.page (setting_of s) (graph_of pages s) n ≡ Ok tt) (there : is_page (graph_of pages s).pages n ≡ true) (r : Checked (Unit {0})) (w : Entered picks touches pages frames s t (position n j) r) where
       at_first : position n j ≡ position n (first k)
       at_first = ap (λ x. position n x) cell
 
@@ -215,7 +217,7 @@ module _ {S V : Type 0} (picks : V → List Bool → ℕ → V → Type 0) (touc
           refuses picks touches pages frames few whole s t (Stand c n k) order kept e w.order w.graph stand_path
           (chain ∙ ap (λ (q : Checked (Unit {0})). steps.done (setting_of s) (graph_of pages s) (q >> Ok (steps.placed (setting_of s) (graph_of pages s) c (Some (position n (first k)))))) is)
 
-      pub stands : r ≡ Ok tt → (t' : Service S V) → t'.pool ≡ t.pool → t'.cursors ≡ set t.cursors c (Some (position n j)) → Did picks touches pages frames s t' (Stand c n k) (Granted Done)
+      pub stands : r ≡ Ok tt → (t' : Service S V stores policies) → t'.pool ≡ t.pool → t'.cursors ≡ set t.cursors c (Some (position n j)) → Did picks touches pages frames s t' (Stand c n k) (Granted Done)
       stands is t' pool cursors =
           let at = position n (first k) in
           let slot : 0 < get_or t.pool.table.slot_of n 0 = subst (λ (q : Checked (Unit {0})). IfOk q (λ _. 0 < get_or t.pool.table.slot_of n 0)) is w.there in
@@ -224,7 +226,7 @@ module _ {S V : Type 0} (picks : V → List Bool → ℕ → V → Type 0) (touc
           (chain ∙ ap (λ (q : Checked (Unit {0})). steps.done (setting_of s) (graph_of pages s) (q >> Ok (steps.placed (setting_of s) (graph_of pages s) c (Some at)))) is)
           refl
 
-    module _ (u : Service S V) (c f d : ℕ) (kept : Kept s u) (cursors : u.cursors ≡ s.cursors) (known : c ≤ 15) (known' : d ≤ 15) where
+    module _ (u : Service S V stores policies) (c f d : ℕ) (kept : Kept s u) (cursors : u.cursors ≡ s.cursors) (known : c ≤ 15) (known' : d ≤ 15) where
       op : (x : Position) → openings.On (graph_of pages s) c x → openings.Opens (setting_of s) (graph_of pages s) (Follow c f d) x.page
       op x on = openings.follow c f d x on known'
 
@@ -257,7 +259,7 @@ module _ {S V : Type 0} (picks : V → List Bool → ℕ → V → Type 0) (touc
               ap (λ m. ltb 0 (x / 64) && leb (x / 64) m) (as_many pages frames few u.pool w.order.pool) ∙ and_from (ltb 0 (x / 64)) _ a.0 (and_parts (leb (x / 64) (length (pages u.pool.store))) _ a.1).0)
               (or_cases (eqb x 0) (is_long_pointer (length (pages u.pool.store)) x) l)
 
-          module _ (t : Service S V) (kept' : Kept u t) (r : Checked (Unit {0})) (w' : Entered picks touches pages frames u t (pointed x) r) where
+          module _ (t : Service S V stores policies) (kept' : Kept u t) (r : Checked (Unit {0})) (w' : Entered picks touches pages frames u t (pointed x) r) where
             same : (opening (setting_of s) (graph_of pages s) (pointed (held from)).page >>= (λ bs. steps.object (setting_of s) (graph_of pages s) bs (pointed (held from)))) ≡ r
             same =
                 ap (λ y. opening (setting_of s) (graph_of pages s) (pointed y).page >>= (λ bs. steps.object (setting_of s) (graph_of pages s) bs (pointed y))) (sym eq)
@@ -275,14 +277,14 @@ module _ {S V : Type 0} (picks : V → List Bool → ℕ → V → Type 0) (touc
             path_on =
                 moves_on path_to
                 (subst (λ (cs : List (Option Position)). Moves picks touches pages (openings.Opens (setting_of s) (graph_of pages s) (Follow c f d)) cs u.pool t.pool) cursors
-                (moves_to _ (λ m e. subst (λ y. openings.Opens (setting_of s) (graph_of pages s) (Follow c f d) y) (sym (e ∙ ap (λ y. y / 64) eq)) (openings.follow-on c f d from known known' is there)) w'.moves))
+                (moves_to _ (λ m e. subst (λ y. openings.Opens (setting_of s) (graph_of pages s) (Follow c f d) y) (sym (e ∙ ap (λ y. y / 64) eq)) (openings.follow_on c f d from known known' is there)) w'.moves))
 
             pub not_followed : (e e' : Fault) → r ≡ Err e → e' ≡ via (on_spot from) e → Did picks touches pages frames s t (Follow c f d) (Refused e')
             not_followed e e' h z =
                 refuses picks touches pages frames few whole s t (Follow c f d) order (kept_on s u t kept kept') e' w'.order (w'.graph ∙ w.graph) path_on
                 (chain_on ∙ ap (λ (q : Checked (Unit {0})). steps.done (setting_of s) (graph_of pages s) (steps.along (on_spot from) (q >> Ok (steps.placed (setting_of s) (graph_of pages s) d (Some (pointed (held from))))))) h ∙ ap (λ (y : Fault). Err y) (sym z))
 
-            pub follows : r ≡ Ok tt → (t' : Service S V) → t'.pool ≡ t.pool → t'.cursors ≡ set t.cursors d (Some (pointed x)) → Did picks touches pages frames s t' (Follow c f d) (Granted Done)
+            pub follows : r ≡ Ok tt → (t' : Service S V stores policies) → t'.pool ≡ t.pool → t'.cursors ≡ set t.cursors d (Some (pointed x)) → Did picks touches pages frames s t' (Follow c f d) (Granted Done)
             follows h t' pool cs =
                 let slot : 0 < get_or t.pool.table.slot_of (x / 64) 0 = subst (λ (q : Checked (Unit {0})). IfOk q (λ _. 0 < get_or t.pool.table.slot_of (x / 64) 0)) h w'.there in
                 placed t t' w'.order (w'.graph ∙ w.graph) (kept_on s u t kept kept') pool d (Some (pointed (held from))) (cs ∙ ap (λ y. set t.cursors d (Some (pointed y))) eq) (Follow c f d) path_on

@@ -40,6 +40,8 @@ use Rattle.service.specs.declared.service.Service.{Service}
 use Rattle.service.specs.declared.service.reach.Spot.{Spot}
 use Rattle.service.proofs.Doing.{moves_to, refuses, grants}
 use Rattle.service.proofs.Reach.{as_granted, then_ok, bind_ok, bind_err, else_ok}
+use Rattle.store.specs.declared.Store.{Ghosts as StoreGhosts}
+use Rattle.policy.specs.declared.Policy.{Ghosts as PolicyGhosts}
 
 pub cursor_known : (c : ℕ) → c ≤ 15 → steps.cursor c ≡ Ok tt
 cursor_known c h = else_ok (leb c 15) _ (le-leb c 15 h)
@@ -93,8 +95,8 @@ module _ (tab : AddressTable) (y : ℕ) (served : (y ≡ 0 → ⊥) → 0 < get_
   pub in_frame : InFrame (owner_of tab.page_of tab.slots) (Names (named y)) (address tab.slot_of y)
   in_frame = by_test (eqb y 0) refl
 
-module _ {S V : Type 0} (picks : V → List Bool → ℕ → V → Type 0) (touches : V → ℕ → V → Type 0) (pages : S → List Page) (frames : V → ℕ) (few : (x : S) → length (pages x) ≤ 1024) (whole : (x : S) (n : ℕ) → Whole (page_at (pages x) n).content)
-    (s t : Service S V) (c f : ℕ) (link : Bool) (order : InOrder pages frames s) (kept : Kept s t) (known : c ≤ 15)
+module _ {S V : Type 0} {stores : StoreGhosts S} {policies : PolicyGhosts V} (picks : V → List Bool → ℕ → V → Type 0) (touches : V → ℕ → V → Type 0) (pages : S → List Page) (frames : V → ℕ) (few : (x : S) → length (pages x) ≤ 1024) (whole : (x : S) (n : ℕ) → Whole (page_at (pages x) n).content)
+    (s t : Service S V stores policies) (c f : ℕ) (link : Bool) (order : InOrder pages frames s) (kept : Kept s t) (known : c ≤ 15)
   where
     -- the call opens the page of the cursor's object
     pub path : (call : Call) → ((x : Position) → openings.On (graph_of pages s) c x → openings.Opens (setting_of s) (graph_of pages s) call x.page) → (r : Checked Spot) → Reached picks touches pages frames s t c f link r → Moves picks touches pages (openings.Opens (setting_of s) (graph_of pages s) call) s.cursors s.pool t.pool

@@ -18,6 +18,8 @@ use Rattle.pool.specs.Courses.{Opens}
 use Rattle.pool.specs.declared.pool.Pool.{Pool}
 use Rattle.service.specs.Serving.{setting_of, owners, Kept, graph_of, InOrder, Holding}
 use Rattle.service.specs.declared.service.Service.{Service}
+use Rattle.store.specs.declared.Store.{Ghosts as StoreGhosts}
+use Rattle.policy.specs.declared.Policy.{Ghosts as PolicyGhosts}
 
 -- what each kind of call returns, as an answer
 abbrev pub answered : {A : Type 0} → (A → Value) → Checked A → Answer
@@ -40,14 +42,14 @@ names = answered (λ x. Names (link_of x))
 abbrev pub place : Checked (ℕ × ℕ) → Answer
 place = answered (λ p. At (position p.0 p.1))
 
-module _ {S V : Type 0} (picks : V → List Bool → ℕ → V → Type 0) (touches : V → ℕ → V → Type 0) (pages : S → List Page) where
+module _ {S V : Type 0} {stores : StoreGhosts S} {policies : PolicyGhosts V} (picks : V → List Bool → ℕ → V → Type 0) (touches : V → ℕ → V → Type 0) (pages : S → List Page) where
   -- a pool goes on by opening pages, each of which may be opened, beside those on which the cursors stand
-  pub data Moves (may : ℕ → Type 0) (cursors : List (Option Position)) : Pool S V → Pool S V → Type 0 where
-    rests : (p : Pool S V) → Moves may cursors p p
-    opens : (n : ℕ) (p q t : Pool S V) (standing : ℕ → Bool) (r : Checked ℕ) → may n → ((m : ℕ) → 0 < m → m ≤ 1024 → standing m ≡ on_cursor cursors m) → Opens picks touches pages standing n p q r → Moves may cursors q t → Moves may cursors p t
+  pub data Moves (may : ℕ → Type 0) (cursors : List (Option Position)) : Pool S V stores policies → Pool S V stores policies → Type 0 where
+    rests : (p : Pool S V stores policies) → Moves may cursors p p
+    opens : (n : ℕ) (p q t : Pool S V stores policies) (standing : ℕ → Bool) (r : Checked ℕ) → may n → ((m : ℕ) → 0 < m → m ≤ 1024 → standing m ≡ on_cursor cursors m) → Opens picks touches pages standing n p q r → Moves may cursors q t → Moves may cursors p t
 
   -- the call c took a service from s to t and answered a, as the graph does
-  pub record Did (frames : V → ℕ) (s t : Service S V) (c : Call) (a : Answer) : Type 0 where
+  pub record Did (frames : V → ℕ) (s t : Service S V stores policies) (c : Call) (a : Answer) : Type 0 where
     pub order : InOrder pages frames t
     pub answer : Shown (owners t) c (step (setting_of s) (graph_of pages s) c).0 a
     pub after : graph_of pages t ≡ (step (setting_of s) (graph_of pages s) c).1

@@ -15,6 +15,8 @@ use Rattle.service.specs.Calls.{Moves}
 use Rattle.service.specs.Serving.{setting_of, Kept, graph_of, InOrder}
 use Rattle.service.specs.declared.service.Service.{Service}
 use Rattle.service.specs.declared.service.reach.Spot.{Spot}
+use Rattle.store.specs.declared.Store.{Ghosts as StoreGhosts}
+use Rattle.policy.specs.declared.Policy.{Ghosts as PolicyGhosts}
 
 -- a cursor stands on page m
 abbrev pub on : Option Position → ℕ → Bool
@@ -26,27 +28,27 @@ abbrev pub asks : Bool → Bool → Bool
 asks link b = cond link b (not b)
 
 -- the bytes, in long pointers, of the page in frame i
-abbrev pub bytes_in : {S V : Type 0} → Service S V → ℕ → List ℕ
+abbrev pub bytes_in : {S V : Type 0} → {stores : StoreGhosts S} → {policies : PolicyGhosts V} → Service S V stores policies → ℕ → List ℕ
 bytes_in s i = held_bytes (setting_of s).types s.pool.table.page_of (slice_index_or s.pool.frames i None)
 
 -- an object starts at the cell of the page n in frame i
-pub record Object {S V : Type 0} (s : Service S V) (i n k : ℕ) : Type 0 where
+pub record Object {S V : Type 0} {stores : StoreGhosts S} {policies : PolicyGhosts V} (s : Service S V stores policies) (i n k : ℕ) : Type 0 where
   pub frame : Frame
   pub has : HasAt s.pool.frames i frame
   pub page : frame.page ≡ n
   pub begins : starts_at (setting_of s).types (long_bytes (setting_of s).types s.pool.table.page_of frame) k ≡ true
 
 -- the field of the object in a frame, as the graph has it
-abbrev pub spot_of : {S V : Type 0} → Service S V → ℕ → Spot → steps.Spot
+abbrev pub spot_of : {S V : Type 0} → {stores : StoreGhosts S} → {policies : PolicyGhosts V} → Service S V stores policies → ℕ → Spot → steps.Spot
 spot_of s f o = record { page = o.at.page; cell = o.at.cell; field = f; bytes = bytes_in s o.frame }
 
-abbrev pub spotted : {S V : Type 0} → Service S V → ℕ → Checked Spot → Checked steps.Spot
+abbrev pub spotted : {S V : Type 0} → {stores : StoreGhosts S} → {policies : PolicyGhosts V} → Service S V stores policies → ℕ → Checked Spot → Checked steps.Spot
 spotted s f (Ok o) = Ok (spot_of s f o)
 spotted s f (Err e) = Err e
 
-module _ {S V : Type 0} (picks : V → List Bool → ℕ → V → Type 0) (touches : V → ℕ → V → Type 0) (pages : S → List Page) (frames : V → ℕ) where
+module _ {S V : Type 0} {stores : StoreGhosts S} {policies : PolicyGhosts V} (picks : V → List Bool → ℕ → V → Type 0) (touches : V → ℕ → V → Type 0) (pages : S → List Page) (frames : V → ℕ) where
   -- page n was opened
-  pub record Came (s t : Service S V) (n : ℕ) (r : Checked ℕ) : Type 0 where
+  pub record Came (s t : Service S V stores policies) (n : ℕ) (r : Checked ℕ) : Type 0 where
     pub order : InOrder pages frames t
     pub graph : graph_of pages t ≡ graph_of pages s
     pub answer : found (setting_of t).types t.pool.table.page_of t.pool.frames r ≡ opening (setting_of s) (graph_of pages s) n
@@ -56,7 +58,7 @@ module _ {S V : Type 0} (picks : V → List Bool → ℕ → V → Type 0) (touc
     pub course : Opens picks touches pages standing n s.pool t.pool r
 
   -- field f of the object on which cursor c stands was come to
-  pub record Reached (s t : Service S V) (c f : ℕ) (link : Bool) (r : Checked Spot) : Type 0 where
+  pub record Reached (s t : Service S V stores policies) (c f : ℕ) (link : Bool) (r : Checked Spot) : Type 0 where
     pub order : InOrder pages frames t
     pub graph : graph_of pages t ≡ graph_of pages s
     pub answer : spotted t f r ≡ steps.field (setting_of s) (graph_of pages s) (asks link) c f
@@ -64,7 +66,7 @@ module _ {S V : Type 0} (picks : V → List Bool → ℕ → V → Type 0) (touc
     pub moves : Moves picks touches pages (λ n. (at : Position) × ((slice_index_or s.cursors c None ≡ Some at) × (n ≡ at.page))) s.cursors s.pool t.pool
 
   -- the object there was come to
-  pub record Entered (s t : Service S V) (at : Position) (r : Checked (Unit {0})) : Type 0 where
+  pub record Entered (s t : Service S V stores policies) (at : Position) (r : Checked (Unit {0})) : Type 0 where
     pub order : InOrder pages frames t
     pub graph : graph_of pages t ≡ graph_of pages s
     pub answer : r ≡ (opening (setting_of s) (graph_of pages s) at.page >>= (λ bs. steps.object (setting_of s) (graph_of pages s) bs at))

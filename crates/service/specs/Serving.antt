@@ -13,34 +13,36 @@ use Rattle.pool.specs.Looking.{owner_of}
 use Rattle.pool.specs.Meaning.{Tied, stood_for}
 use Rattle.pool.specs.Needs.{Covers}
 use Rattle.service.specs.declared.service.Service.{Service}
+use Rattle.store.specs.declared.Store.{Ghosts as StoreGhosts}
+use Rattle.policy.specs.declared.Policy.{Ghosts as PolicyGhosts}
 
 -- the types of its catalogue, and its number of addresses
-abbrev pub setting_of : {S V : Type 0} → Service S V → Setting
+abbrev pub setting_of : {S V : Type 0} → {stores : StoreGhosts S} → {policies : PolicyGhosts V} → Service S V stores policies → Setting
 setting_of s = record { types = types s.pool.catalogue; addresses = s.pool.table.slots }
 
 -- the page that each slot belongs to
-abbrev pub owners : {S V : Type 0} → Service S V → ℕ → Option ℕ
+abbrev pub owners : {S V : Type 0} → {stores : StoreGhosts S} → {policies : PolicyGhosts V} → Service S V stores policies → ℕ → Option ℕ
 owners s i = owner_of s.pool.table.page_of s.pool.table.slots i
 
 -- catalogue and plan are as they were
-pub record Kept {S V : Type 0} (s t : Service S V) : Type 0 where
+pub record Kept {S V : Type 0} {stores : StoreGhosts S} {policies : PolicyGhosts V} (s t : Service S V stores policies) : Type 0 where
   pub catalogue : t.pool.catalogue ≡ s.pool.catalogue
   pub addresses : t.pool.table.slots ≡ s.pool.table.slots
   pub frames : t.pool.count ≡ s.pool.count
 
-module _ {S V : Type 0} (pages : S → List Page) where
+module _ {S V : Type 0} {stores : StoreGhosts S} {policies : PolicyGhosts V} (pages : S → List Page) where
   -- the graph that it stands for: the store's pages with those in frames, in long pointers, over them, and its cursors
-  abbrev pub graph_of : Service S V → Graph
+  abbrev pub graph_of : Service S V stores policies → Graph
   graph_of s = record { pages = stood_for pages s.pool; cursors = s.cursors }
 
   -- it is tied to its store and policy, its cursors stand on objects, and their pages have slots
-  pub record InOrder (frames : V → ℕ) (s : Service S V) : Type 0 where
+  pub record InOrder (frames : V → ℕ) (s : Service S V stores policies) : Type 0 where
     pub pool : Tied pages frames s.pool
     pub stand : OnObjects (setting_of s).types (graph_of s)
     pub covered : Covers s.pool.table.slot_of (on_cursor s.cursors)
 
   -- a frame holds a page of the graph, with addresses for its present links; the page and those that it links to have slots
-  pub record Framed (s : Service S V) (f : Frame) : Type 0 where
+  pub record Framed (s : Service S V stores policies) (f : Frame) : Type 0 where
     pub held : List ℕ
     pub page : (page_at (graph_of s).pages f.page).content ≡ bytes held
     pub cells : f.cells ≡ swizzled (setting_of s).types s.pool.table.slot_of (cells_of held)
@@ -48,6 +50,6 @@ module _ {S V : Type 0} (pages : S → List Page) where
     pub links : (m : ℕ) → links_to (setting_of s).types (cells_of held) m ≡ true → 0 < slice_index s.pool.table.slot_of m
 
   -- and so do all occupied frames; the cursors' pages have slots too
-  pub record Holding (s : Service S V) : Type 0 where
+  pub record Holding (s : Service S V stores policies) : Type 0 where
     pub frames : (i : ℕ) (f : Frame) → HasAt s.pool.frames i f → Framed s f
     pub cursors : (c : ℕ) (at : Position) → slice_index_or s.cursors c None ≡ Some at → 0 < slice_index s.pool.table.slot_of at.page

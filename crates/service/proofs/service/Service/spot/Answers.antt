@@ -10,30 +10,30 @@ use Rattle.service.proofs.Opening.{kept_by}
 use Rattle.service.proofs.Reach.{stood, cursor_page, no_cursor, not_opened, no_field, wrong_kind, there_is, other_kind, right_kind}
 use Rattle.service.proofs.service.Service.spot.Goals as goal
 
-pub returns-in-err-at : goal.returns-in-err-at
-returns-in-err-at g c =
+pub returns-in_err-at : goal.returns-in_err-at
+returns-in_err-at g c =
     let s = c.args.self.now in
-    let q = err_from_is_err_and c.from-residual.result c.from-residual.ensures.1 in
-    let e = c.in-err-at.field-0.0 in
+    let q = err_from_is_err_and c.from_residual.result c.from_residual.ensures.1 in
+    let e = c.in_err-at.field-0.0 in
     record {
       reached = λ order. subst (λ (r : Checked Spot). Reached g.V.Policy.picks g.V.Policy.touches g.S.Store.pages g.V.Policy.frames s s c.args.cursor c.args.field c.args.link r) (sym (q.1 ∙ ap Err q.2))
-          (no_cursor g.V.Policy.picks g.V.Policy.touches g.S.Store.pages g.V.Policy.frames s c.args.cursor order c.args.field c.args.link e (sym c.position.ensures ∙ c.in-err-at.was));
+          (no_cursor g.V.Policy.picks g.V.Policy.touches g.S.Store.pages g.V.Policy.frames s c.args.cursor order c.args.field c.args.link e (sym c.position.ensures ∙ c.in_err-at.was));
       cursors = refl;
       kept = kept_by s s refl refl refl;
     }
 
-pub returns-in-err-frame : goal.returns-in-err-frame
-returns-in-err-frame g c =
+pub returns-in_err-frame : goal.returns-in_err-frame
+returns-in_err-frame g c =
     let s = c.args.self.now in
     let t = c.open.new.self in
-    let q = err_from_is_err_and c.from-residual-in-err-frame.result c.from-residual-in-err-frame.ensures.1 in
-    let e = c.in-err-frame.field-0.0 in
-    let at = c.in-ok-at.at in
-    let on = stood (get_or s.cursors c.args.cursor None) _ at (sym c.position.ensures ∙ c.in-ok-at.was) in
+    let q = err_from_is_err_and c.from_residual-in_err-frame.result c.from_residual-in_err-frame.ensures.1 in
+    let e = c.in_err-frame.field-0.0 in
+    let at = c.in_ok-at.at in
+    let on = stood (get_or s.cursors c.args.cursor None) _ at (sym c.position.ensures ∙ c.in_ok-at.was) in
     record {
       reached = λ order. subst (λ (r : Checked Spot). Reached g.V.Policy.picks g.V.Policy.touches g.S.Store.pages g.V.Policy.frames s t c.args.cursor c.args.field c.args.link r) (sym (q.1 ∙ ap Err q.2))
           (not_opened g.V.Policy.picks g.V.Policy.touches g.S.Store.pages g.V.Policy.frames s c.args.cursor order c.args.field c.args.link t at on e
-          (c.in-err-frame.ensures.came order (cursor_page g.V.Policy.picks g.V.Policy.touches g.S.Store.pages g.V.Policy.frames s c.args.cursor order at on)));
+          (c.in_err-frame.ensures.came order (cursor_page g.V.Policy.picks g.V.Policy.touches g.S.Store.pages g.V.Policy.frames s c.args.cursor order at on)));
       cursors = c.open.ensures.cursors;
       kept = c.open.ensures.kept;
     }
@@ -42,28 +42,28 @@ pub returns-then-field-kind : goal.returns-then-field-kind
 returns-then-field-kind g c =
     let s = c.args.self.now in
     let t = c.open.new.self in
-    let at = c.in-ok-at.at in
-    let on = stood (get_or s.cursors c.args.cursor None) _ at (sym c.position.ensures ∙ c.in-ok-at.was) in
+    let at = c.in_ok-at.at in
+    let on = stood (get_or s.cursors c.args.cursor None) _ at (sym c.position.ensures ∙ c.in_ok-at.was) in
     record {
-      reached = λ order. no_field g.V.Policy.picks g.V.Policy.touches g.S.Store.pages g.V.Policy.frames s c.args.cursor order c.args.field c.args.link t at on c.open.ensures.kept c.in-ok-frame.frame
-          (c.in-ok-frame.ensures.came order (cursor_page g.V.Policy.picks g.V.Policy.touches g.S.Store.pages g.V.Policy.frames s c.args.cursor order at on))
-          c.kind-kind.result c.kind-kind.ensures c.new.result (c.new.ensures ∙ ap (fault NoField 2) c.on-field-place.ensures) (le-ltb _ _ c.if-field-kind.true);
+      reached = λ order. no_field g.V.Policy.picks g.V.Policy.touches g.S.Store.pages g.V.Policy.frames s c.args.cursor order c.args.field c.args.link t at on c.open.ensures.kept c.in_ok-frame.frame
+          (c.in_ok-frame.ensures.came order (cursor_page g.V.Policy.picks g.V.Policy.touches g.S.Store.pages g.V.Policy.frames s c.args.cursor order at on))
+          c.kind-kind.result c.kind-kind.ensures c.new.result (c.new.ensures ∙ ap (fault NoField 2) c.on_field-place.ensures) (le-ltb _ _ c.if-field-kind.true);
       cursors = c.open.ensures.cursors;
       kept = c.open.ensures.kept;
     }
 
-pub returns-then-is-link-link : goal.returns-then-is-link-link
-returns-then-is-link-link g c =
+pub returns-then-is_link-link : goal.returns-then-is_link-link
+returns-then-is_link-link g c =
     let s = c.args.self.now in
     let t = c.open.new.self in
-    let at = c.in-ok-at.at in
+    let at = c.in_ok-at.at in
     let d = c.kind-kind.result in
-    let on = stood (get_or s.cursors c.args.cursor None) _ at (sym c.position.ensures ∙ c.in-ok-at.was) in
+    let on = stood (get_or s.cursors c.args.cursor None) _ at (sym c.position.ensures ∙ c.in_ok-at.was) in
     record {
-      reached = λ order. wrong_kind g.V.Policy.picks g.V.Policy.touches g.S.Store.pages g.V.Policy.frames s c.args.cursor order c.args.field c.args.link t at on c.open.ensures.kept c.in-ok-frame.frame
-          (c.in-ok-frame.ensures.came order (cursor_page g.V.Policy.picks g.V.Policy.touches g.S.Store.pages g.V.Policy.frames s c.args.cursor order at on))
-          d c.kind-kind.ensures c.new-then-is-link-link.result (c.new-then-is-link-link.ensures ∙ ap (fault WrongKind 2) c.on-field-place.ensures) (lt-ltb _ _ c.if-field-kind.false)
-          (ap (asks c.args.link) (sym c.is-link.ensures) ∙ other_kind c.is-link.result c.args.link c.if-is-link-link.true);
+      reached = λ order. wrong_kind g.V.Policy.picks g.V.Policy.touches g.S.Store.pages g.V.Policy.frames s c.args.cursor order c.args.field c.args.link t at on c.open.ensures.kept c.in_ok-frame.frame
+          (c.in_ok-frame.ensures.came order (cursor_page g.V.Policy.picks g.V.Policy.touches g.S.Store.pages g.V.Policy.frames s c.args.cursor order at on))
+          d c.kind-kind.ensures c.new-then-is_link-link.result (c.new-then-is_link-link.ensures ∙ ap (fault WrongKind 2) c.on_field-place.ensures) (lt-ltb _ _ c.if-field-kind.false)
+          (ap (asks c.args.link) (sym c.is_link.ensures) ∙ other_kind c.is_link.result c.args.link c.if-is_link-link.true);
       cursors = c.open.ensures.cursors;
       kept = c.open.ensures.kept;
     }
@@ -72,14 +72,14 @@ pub returns : goal.returns
 returns g c =
     let s = c.args.self.now in
     let t = c.open.new.self in
-    let at = c.in-ok-at.at in
+    let at = c.in_ok-at.at in
     let d = c.kind-kind.result in
-    let on = stood (get_or s.cursors c.args.cursor None) _ at (sym c.position.ensures ∙ c.in-ok-at.was) in
+    let on = stood (get_or s.cursors c.args.cursor None) _ at (sym c.position.ensures ∙ c.in_ok-at.was) in
     record {
-      reached = λ order. there_is g.V.Policy.picks g.V.Policy.touches g.S.Store.pages g.V.Policy.frames s c.args.cursor order c.args.field c.args.link t at on c.open.ensures.kept c.in-ok-frame.frame
-          (c.in-ok-frame.ensures.came order (cursor_page g.V.Policy.picks g.V.Policy.touches g.S.Store.pages g.V.Policy.frames s c.args.cursor order at on))
+      reached = λ order. there_is g.V.Policy.picks g.V.Policy.touches g.S.Store.pages g.V.Policy.frames s c.args.cursor order c.args.field c.args.link t at on c.open.ensures.kept c.in_ok-frame.frame
+          (c.in_ok-frame.ensures.came order (cursor_page g.V.Policy.picks g.V.Policy.touches g.S.Store.pages g.V.Policy.frames s c.args.cursor order at on))
           d c.kind-kind.ensures c.if-field-kind.false
-          (ap (asks c.args.link) (sym c.is-link.ensures) ∙ right_kind c.is-link.result c.args.link c.if-is-link-link.false);
+          (ap (asks c.args.link) (sym c.is_link.ensures) ∙ right_kind c.is_link.result c.args.link c.if-is_link-link.false);
       cursors = c.open.ensures.cursors;
       kept = c.open.ensures.kept;
     }

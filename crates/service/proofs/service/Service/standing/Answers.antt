@@ -14,8 +14,8 @@ loop-k-preserved g c m =
     let k = c.loop-k.k in
     let h : k < length s.cursors = omega (arith, s.sixteen) in
     let v = c.loop-k.pages.words in
-    on_more v c.add-page.new.pages.words m s.cursors k h (c.loop-k.invariant m)
-    (c.add-page.ensures m ∙ ap (λ (x : Option Position). holds v m || (on x m && is_page m)) (sym (get_or_default s.cursors k None _ h)))
+    on_more v c.add_page.new.pages.words m s.cursors k h (c.loop-k.invariant m)
+    (c.add_page.ensures m ∙ ap (λ (x : Option Position). holds v m || (on x m && is_page m)) (sym (get_or_default s.cursors k None _ h)))
 
 pub returns : goal.returns
 returns g c m =

@@ -7,5 +7,5 @@ pub returns : goal.returns
 returns c m =
     let v = c.args.pages.now.words in
     let n = c.in-Some.at.page in
-    put_page v c.add.new.self.words n m c.if-at-gt-MOST-PAGES.false c.add.ensures.added c.add.ensures.others
+    put_page v c.add.new.self.words n m c.if-at-gt-MOST_PAGES.false c.add.ensures.added c.add.ensures.others
     ∙ on_some c.args.held c.in-Some.at m (holds v m) c.in-Some.is
