@@ -1,26 +1,23 @@
 -- What is so of a service that is in order. Assumes nothing.
-use Rattle.std.proofs.Common.{◌≡◌, ℕ, zero, suc, ◌<◌, ◌≤◌, min, Bool, true, false, ◌||◌, eqb, ◌⊎◌, List, [], ◌∷◌, length, get_or, take, set, replicate, Some, None, Option, sym, refl, ap, ◌∙◌, subst, inl, inr, ⊎_elim, arith, length-take}
+use Rattle.std.proofs.Common.{◌≡◌, ℕ, zero, suc, ◌<◌, ◌≤◌, true, false, eqb, ◌⊎◌, List, [], ◌∷◌, length, get_or, set, replicate, Some, None, Option, sym, refl, ap, ◌∙◌, subst, inl, inr, ⊎_elim, arith, length-take}
 use Rattle.std.proofs.lemmas.Bool.{both_ways, eq-eqb, or_left, or_right, or_cases, eqb-true}
-use Rattle.pageset.specs.Sets.{holds}
 use Rattle.page.specs.Types.{types}
-use Rattle.page.specs.Walks.{cells_of, links_to}
+use Rattle.page.specs.Walks.{links_to}
 use Rattle.page.specs.declared.catalogue.ClosedCatalogue.{ClosedCatalogue}
-use Rattle.page.specs.declared.descriptor.Descriptor.{Descriptor}
 use Rattle.frame.specs.Links.{swizzled}
 use Rattle.frame.specs.declared.frame.Frame.{Frame}
-use Rattle.store.specs.Pages.{Content, Page, Whole, bytes, page_at, is_page}
-use Rattle.stands.specs.Frames.{HasAt, Lacks, long_bytes, long_cells}
+use Rattle.store.specs.Pages.{Content, Page, Whole, page_at}
+use Rattle.stands.specs.Frames.{HasAt, Lacks, long_bytes}
 use Rattle.stands.proofs.Courses.{shown}
 use Rattle.stands.proofs.Layers.{holder, none_some, some_inj}
 use Rattle.graph.specs.declared.calls.Position.{Position}
-use Rattle.graph.specs.Graphs.{Graph, on_cursor}
-use Rattle.graph.specs.Standing.{Limits, OnObjects}
+use Rattle.graph.specs.Graphs.{on_cursor}
+use Rattle.graph.specs.Standing.{Limits}
 use Rattle.pool.specs.Meaning.{Tied, stood_for}
-use Rattle.pool.specs.Needs.{needed, Covers}
 use Rattle.pool.specs.declared.pool.Pool.{Pool}
 use Rattle.pool.proofs.Opens.{cells_long, length_long, needed_at}
 use Rattle.pool.proofs.Enters.{is_there}
-use Rattle.service.specs.Serving.{setting_of, graph_of, InOrder, Framed, Holding}
+use Rattle.service.specs.Serving.{setting_of, graph_of, InOrder, Holding}
 use Rattle.service.specs.declared.service.Service.{Service}
 use Rattle.store.specs.declared.Store.{Ghosts as StoreGhosts}
 use Rattle.policy.specs.declared.Policy.{Ghosts as PolicyGhosts}

@@ -1,6 +1,6 @@
 -- A service opens a page as the graph does. Assumes nothing.
-use Rattle.std.proofs.Common.{◌≡◌, ℕ, ◌<◌, ◌≤◌, Bool, true, false, ◌&&◌, ◌||◌, eqb, ltb, leb, List, length, get_or, Ok, Err, Option, sym, refl, ap, ◌∙◌, subst, arith}
-use Rattle.std.proofs.lemmas.Bool.{and_parts, and_from, le-leb, lt-ltb}
+use Rattle.std.proofs.Common.{◌≡◌, ℕ, ◌<◌, ◌≤◌, Bool, true, false, ◌&&◌, ◌||◌, eqb, ltb, leb, List, length, Ok, Err, Option, sym, refl, ap, ◌∙◌, subst, arith}
+use Rattle.std.proofs.lemmas.Bool.{and_from, le-leb, lt-ltb}
 use Rattle.fault.specs.declared.kinds.Cause.TheVariants.{NoAddresses}
 use Rattle.fault.specs.Faults.{on_page, fault}
 use Rattle.fault.specs.Refusals.{Checked, ◌>>=◌, ◌>>◌, ◌else◌}
@@ -11,9 +11,8 @@ use Rattle.page.specs.Walks.{cells_of, links_to}
 use Rattle.page.specs.declared.catalogue.ClosedCatalogue.{ClosedCatalogue}
 use Rattle.page.specs.declared.descriptor.Descriptor.{Descriptor}
 use Rattle.frame.specs.Links.{is_page as is_number}
-use Rattle.frame.specs.declared.frame.Frame.{Frame}
 use Rattle.store.specs.Pages.{Page, is_page}
-use Rattle.stands.specs.Frames.{HasAt, stands_for}
+use Rattle.stands.specs.Frames.{stands_for}
 use Rattle.graph.specs.declared.calls.Position.{Position}
 use Rattle.graph.specs.Graphs.{Graph, Setting, on_cursor, fetched, wanted_count, wanted, opening}
 use Rattle.graph.specs.Standing.{OnObjects}
@@ -21,7 +20,6 @@ use Rattle.pool.specs.Courses.{Opens}
 use Rattle.pool.specs.Meaning.{Fine, Tied, stood_for}
 use Rattle.pool.specs.Needs.{Covers}
 use Rattle.pool.specs.Opening.{wanted_with, opening_with, found, Opened}
-use Rattle.pool.specs.declared.pool.Pool.{Pool}
 use Rattle.pool.proofs.Frames.{tally_same}
 use Rattle.service.specs.Inner.{Came}
 use Rattle.service.specs.Serving.{setting_of, graph_of, InOrder, Kept}

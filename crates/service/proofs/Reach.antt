@@ -1,5 +1,5 @@
 -- How a call comes to a field. Assumes nothing.
-use Rattle.std.proofs.Common.{◌≡◌, ℕ, ◌<◌, ◌≤◌, Bool, true, false, not, ◌&&◌, ltb, leb, List, length, get_or, Some, None, Ok, Err, Option, sym, refl, ap, ◌∙◌, subst, arith}
+use Rattle.std.proofs.Common.{◌≡◌, ℕ, ◌<◌, Bool, true, false, not, ltb, List, get_or, Some, None, Ok, Err, Option, sym, refl, ap, ◌∙◌, subst, arith}
 use mathlib.Core.Bool.{beq}
 use Rattle.std.proofs.lemmas.Bool.{and_from, both_ways, le-leb, lt-ltb}
 use Rattle.fault.specs.declared.kinds.Cause.TheVariants.{EmptyCursor, NoField, WrongKind}
@@ -15,21 +15,19 @@ use Rattle.frame.specs.declared.frame.Frame.{Frame}
 use Rattle.store.specs.Pages.{Page, is_page}
 use Rattle.stands.specs.Frames.{HasAt, long_bytes}
 use Rattle.graph.specs.declared.calls.Position.{Position}
-use Rattle.graph.specs.Graphs.{Graph, Setting, opening}
-use Rattle.graph.specs.Laws.{LawfulPage}
+use Rattle.graph.specs.Graphs.{opening}
 use Rattle.graph.specs.Steps as steps
 use Rattle.graph.specs.Steps.{starts_at}
 use Rattle.graph.proofs.Grants.{Grants, given}
 use Rattle.graph.proofs.Kept.{begins_in}
 use Rattle.graph.proofs.Opens.{opens as opens-lawful}
 use Rattle.pool.specs.Meaning.{Tied}
-use Rattle.pool.specs.Opening.{held_bytes, found}
+use Rattle.pool.specs.Opening.{held_bytes}
 use Rattle.pool.proofs.Enters.{is_there}
 use Rattle.service.specs.Calls.{Moves, rests, opens}
-use Rattle.service.specs.Inner.{asks, bytes_in, Object, spotted, Came, Reached}
+use Rattle.service.specs.Inner.{asks, bytes_in, Object, Came, Reached}
 use Rattle.service.specs.Serving.{setting_of, graph_of, InOrder, Kept}
 use Rattle.service.specs.declared.service.Service.{Service}
-use Rattle.service.specs.declared.service.reach.Spot.{Spot}
 use Rattle.store.specs.declared.Store.{Ghosts as StoreGhosts}
 use Rattle.policy.specs.declared.Policy.{Ghosts as PolicyGhosts}
 

@@ -1,10 +1,9 @@
 -- Calls that move cursors. Assumes nothing.
-use Rattle.std.proofs.Common.{◌≡◌, ℕ, ◌/◌, ◌%◌, ◌<◌, ◌≤◌, Bool, true, false, ◌&&◌, eqb, ltb, leb, List, length, get_or, set, IfOk, Some, None, Ok, Err, Option, sym, refl, ap, ◌∙◌, subst, ⊎_elim, arith}
-use Rattle.std.proofs.lemmas.Bool.{and_parts, and_from, or_cases, eqb-true, ltb-true, leb-true, lt-ltb, le-leb, le-ltb}
+use Rattle.std.proofs.Common.{◌≡◌, ℕ, ◌/◌, ◌<◌, ◌≤◌, Bool, true, false, ◌&&◌, eqb, ltb, leb, List, length, get_or, set, IfOk, Some, None, Ok, Err, Option, sym, refl, ap, ◌∙◌, subst, ⊎_elim, arith}
+use Rattle.std.proofs.lemmas.Bool.{and_parts, and_from, or_cases, eqb-true, lt-ltb, le-ltb}
 use Rattle.fault.specs.declared.kinds.Cause.TheVariants.{NoPage, NoObject, AbsentLink}
 use Rattle.fault.specs.declared.kinds.Fault.{Fault}
-use Rattle.fault.specs.declared.kinds.Place.{Place}
-use Rattle.fault.specs.Faults.{on_page, on_cell, on_field, fault, via}
+use Rattle.fault.specs.Faults.{on_page, on_cell, fault, via}
 use Rattle.fault.specs.Refusals.{Checked, ◌>>=◌, ◌>>◌, ◌else◌}
 use Rattle.page.specs.Links.{is_link, is_long_pointer}
 use Rattle.page.specs.Types.{types}
@@ -16,7 +15,6 @@ use Rattle.graph.specs.declared.calls.Answer.TheVariants.{Granted, Refused}
 use Rattle.graph.specs.declared.calls.Call.{Call}
 use Rattle.graph.specs.declared.calls.Call.TheVariants.{Stand, Follow, Leave, Where}
 use Rattle.graph.specs.declared.calls.Position.{Position}
-use Rattle.graph.specs.declared.calls.Value.{Value}
 use Rattle.graph.specs.declared.calls.Value.TheVariants.{Done, At}
 use Rattle.graph.specs.Graphs.{Graph, Setting, on_cursor, opening}
 use Rattle.graph.specs.Openings as openings
@@ -28,7 +26,7 @@ use Rattle.pool.specs.declared.pool.Pool.{Pool}
 use Rattle.pool.specs.Needs.{Covers}
 use Rattle.pool.specs.Opening.{held_bytes}
 use Rattle.service.specs.Calls.{Moves, rests, opens, Did}
-use Rattle.service.specs.Inner.{asks, bytes_in, spot_of, Came, Reached, Entered}
+use Rattle.service.specs.Inner.{bytes_in, spot_of, Came, Reached, Entered}
 use Rattle.service.specs.Serving.{setting_of, owners, graph_of, InOrder, Kept}
 use Rattle.service.specs.declared.service.Service.{Service}
 use Rattle.service.specs.declared.service.reach.Spot.{Spot}

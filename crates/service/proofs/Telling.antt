@@ -1,5 +1,5 @@
 -- Calls that read a field. Assumes nothing.
-use Rattle.std.proofs.Common.{◌≡◌, ℕ, ◌+◌, ◌-◌, ◌*◌, ◌/◌, ◌%◌, ◌<◌, ◌≤◌, Bool, true, false, cond, not, eqb, ltb, leb, List, length, get_or, Some, None, Ok, Err, Option, sym, refl, ap, ◌∙◌, subst, arith}
+use Rattle.std.proofs.Common.{◌≡◌, ℕ, ◌+◌, ◌-◌, ◌*◌, ◌/◌, ◌%◌, ◌<◌, ◌≤◌, Bool, true, false, cond, eqb, leb, List, length, get_or, Some, None, Ok, Err, Option, sym, refl, ap, ◌∙◌, subst, arith}
 use Rattle.std.proofs.lemmas.Bool.{le-leb, lt-ltb, ne_eqb, eqb-false}
 use Rattle.fault.specs.declared.kinds.Fault.{Fault}
 use Rattle.fault.specs.Refusals.{Checked, ◌>>=◌, ◌>>◌}
@@ -9,8 +9,6 @@ use Rattle.page.specs.Form.{field_at, type_at}
 use Rattle.page.specs.Links.{is_link}
 use Rattle.page.specs.Types.{types}
 use Rattle.page.specs.declared.catalogue.ClosedCatalogue.{ClosedCatalogue}
-use Rattle.page.specs.declared.descriptor.Descriptor.{Descriptor}
-use Rattle.page.specs.declared.link.Link.{Link}
 use Rattle.page.specs.declared.link.Link.TheVariants.{Absent, To}
 use Rattle.frame.specs.Links.{address}
 use Rattle.frame.specs.declared.frame.Frame.{Frame}

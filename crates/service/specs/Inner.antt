@@ -6,13 +6,13 @@ use Rattle.frame.specs.declared.frame.Frame.{Frame}
 use Rattle.store.specs.Pages.{Page}
 use Rattle.stands.specs.Frames.{HasAt, long_bytes}
 use Rattle.graph.specs.declared.calls.Position.{Position}
-use Rattle.graph.specs.Graphs.{Graph, on_cursor, opening}
+use Rattle.graph.specs.Graphs.{on_cursor, opening}
 use Rattle.graph.specs.Steps as steps
 use Rattle.graph.specs.Steps.{starts_at}
 use Rattle.pool.specs.Courses.{Opens}
 use Rattle.pool.specs.Opening.{held_bytes, found}
 use Rattle.service.specs.Calls.{Moves}
-use Rattle.service.specs.Serving.{setting_of, Kept, graph_of, InOrder}
+use Rattle.service.specs.Serving.{setting_of, graph_of, InOrder}
 use Rattle.service.specs.declared.service.Service.{Service}
 use Rattle.service.specs.declared.service.reach.Spot.{Spot}
 use Rattle.store.specs.declared.Store.{Ghosts as StoreGhosts}

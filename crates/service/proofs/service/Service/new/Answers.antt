@@ -1,4 +1,4 @@
-use Rattle.std.proofs.Common.{ℕ, ◌≤◌, List, replicate, sym, refl, ap, ◌∙◌, subst, arith}
+use Rattle.std.proofs.Common.{List, sym, refl, ap, ◌∙◌, subst, arith}
 use Rattle.page.specs.Types.{types}
 use Rattle.page.specs.declared.catalogue.ClosedCatalogue.{ClosedCatalogue}
 use Rattle.stands.specs.Frames.{stands_for}

@@ -1,4 +1,4 @@
-use Rattle.std.proofs.Common.{◌≡◌, ℕ, ◌≤◌, Bool, true, false, Ok, Err, sym, refl, ap, ◌∙◌, subst}
+use Rattle.std.proofs.Common.{◌≡◌, ℕ, false, Ok, Err, sym, refl, ap, ◌∙◌, subst}
 use Rattle.std.proofs.lemmas.Result.{err_from_is_err_and}
 use Rattle.fault.specs.Refusals.{Checked}
 use Rattle.page.specs.Form.{field_at}
@@ -6,14 +6,14 @@ use Rattle.graph.specs.declared.calls.Call.{Call}
 use Rattle.graph.specs.Openings as openings
 use Rattle.graph.specs.Steps as steps
 use Rattle.graph.specs.Steps.{held, named}
-use Rattle.graph.specs.declared.calls.Value.TheVariants.{Number, Names}
+use Rattle.graph.specs.declared.calls.Value.TheVariants.{Number}
 use Rattle.graph.specs.declared.calls.Answer.TheVariants.{Granted}
 use Rattle.service.specs.Calls.{number, rests, Did}
-use Rattle.service.specs.Inner.{bytes_in, spot_of}
+use Rattle.service.specs.Inner.{spot_of}
 use Rattle.service.specs.Serving.{setting_of, graph_of}
 use Rattle.service.proofs.Opening.{kept_by}
 use Rattle.service.proofs.Doing.{refuses}
-use Rattle.service.proofs.Telling.{cursor_known, told_field, told_ok, read_cursor, told_is, field_is, refused_field, told_field_of, glanced}
+use Rattle.service.proofs.Telling.{cursor_known, told_field, told_ok, read_cursor, told_is, field_is, refused_field, told_field_of}
 use Rattle.service.proofs.service.Service.read.Goals as goal
 
 pub returns-in_err-check_cursor : goal.returns-in_err-check_cursor

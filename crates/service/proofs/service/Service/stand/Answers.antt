@@ -1,14 +1,11 @@
-use Rattle.std.proofs.Common.{◌≡◌, Ok, Err, sym, refl, ap, ◌∙◌, subst, arith}
+use Rattle.std.proofs.Common.{Ok, Err, sym, refl, ap, ◌∙◌, subst}
 use Rattle.std.proofs.lemmas.Result.{err_from_is_err_and}
 use Rattle.fault.specs.Refusals.{Checked}
-use Rattle.fault.specs.declared.kinds.Fault.{Fault}
 use Rattle.graph.specs.declared.calls.Call.{Call}
-use Rattle.graph.specs.Steps as steps
-use Rattle.service.specs.Calls.{done, place, rests, Did}
-use Rattle.service.specs.Inner.{Entered}
+use Rattle.service.specs.Calls.{done, rests, Did}
 use Rattle.service.specs.Serving.{setting_of, graph_of}
 use Rattle.service.proofs.Opening.{kept_by}
-use Rattle.service.proofs.Doing.{refuses, grants}
+use Rattle.service.proofs.Doing.{refuses}
 use Rattle.service.proofs.Telling.{cursor_known}
 use Rattle.service.proofs.Reach.{else_yes}
 use Rattle.service.proofs.Stepping.{stand_cursor, stand_page, not_stood, stands}
