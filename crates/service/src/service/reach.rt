@@ -7,7 +7,7 @@ ghost use Rattle.frame.specs.Links.{is_page as is_number};
 ghost use Rattle.pageset.specs.Sets.{holds};
 ghost use Rattle.store.specs.Pages.{is_page};
 ghost use Rattle.graph.specs.Graphs.{on_cursor};
-ghost use Rattle.graph.specs.Steps.{cursor as cursorCheck, stands_on};
+ghost use Rattle.graph.specs.Steps.{cursor as cursor_check, stands_on};
 ghost use Rattle.service.specs.Inner.{on, Came, Reached};
 ghost use Rattle.service.specs.Serving.{setting_of, Kept, graph_of, InOrder};
 
@@ -31,7 +31,7 @@ pub(super) struct Spot {
 }
 
 pub(super) fn check_cursor(cursor: u64) -> Result<(), Fault>
-    ensures value { result ≡ cursorCheck cursor }
+    ensures value { result ≡ cursor_check cursor }
     ensures within { OnOk result (cursor ≤ 15) }
 {
     if cursor > LAST_CURSOR {

@@ -1,7 +1,7 @@
 // Calls that move cursors.
 ghost use Rattle.std.specs.Prelude.{◌≡◌, true};
 ghost use Rattle.store.specs.Pages.{is_page};
-ghost use Rattle.graph.specs.Steps.{page as pageCheck, first};
+ghost use Rattle.graph.specs.Steps.{page as page_check, first};
 ghost use Rattle.service.specs.Calls.{done, place, Did};
 ghost use Rattle.service.specs.Inner.{Entered};
 ghost use Rattle.service.specs.Serving.{setting_of, Kept, graph_of, InOrder};
@@ -25,7 +25,7 @@ fn first_cell(cell: u64) -> u64
 
 impl<S: Store, V: Policy> Service<S, V> {
     pub(super) fn check_page(&self, page: u64) -> Result<(), Fault>
-        ensures { InOrder S.Store.pages V.Policy.frames self.now → result ≡ pageCheck (setting_of self.now) (graph_of S.Store.pages self.now) page }
+        ensures { InOrder S.Store.pages V.Policy.frames self.now → result ≡ page_check (setting_of self.now) (graph_of S.Store.pages self.now) page }
     {
         if !self.pool.has_page(page) {
             return Err(Fault::new(Cause::NoPage, LAYER, Place::on_page(page)));
