@@ -1,5 +1,5 @@
 -- Frames are saved and stay. Assumes nothing.
-use Rattle.std.specs.Prelude.{◌≡◌, ℕ, false, List, get_or, Some, None, Option, ◌≢◌, slice_index_or, slice_set}
+use Rattle.std.specs.Prelude.{◌≡◌, ℕ, false, List, Some, None, Option, ◌≢◌, slice_index_or, slice_set}
 use Rattle.page.specs.declared.descriptor.Descriptor.{Descriptor}
 use Rattle.frame.specs.declared.frame.Frame.{Frame}
 use Rattle.store.specs.Pages.{Page}
@@ -9,7 +9,7 @@ use Rattle.pool.specs.Meaning.{Fine}
 -- frame k of the frames after is that of the frames before, unchanged now, and no other differs
 pub record Clean (fs fs' : List (Option Frame)) (k : ℕ) : Type 0 where
   pub others : (j : ℕ) → (j ≢ k) → slice_index_or fs' j None ≡ slice_index_or fs j None
-  pub none : get_or fs k None ≡ None → fs' ≡ fs
+  pub none : slice_index_or fs k None ≡ None → fs' ≡ fs
   pub some : (f : Frame) → HasAt fs k f → (g : Frame) × ((fs' ≡ slice_set fs k (Some g)) × (Is g f.page false f.cells × (g.needs ≡ f.needs)))
 
 -- all is saved: the store has what is stood for, and nothing of it changed
