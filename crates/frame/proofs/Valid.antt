@@ -170,9 +170,9 @@ starts_drop : (ts : List Descriptor) (xs : List ℕ) (i : ℕ) → get_or (start
 starts_drop ts [] i = refl
 starts_drop ts (x ∷ xs) i = refl
 
-get_d_drop_one : (xs : List ℕ) (j : ℕ) → get_or (drop 1 xs) j 0 ≡ get_or xs (suc j) 0
-get_d_drop_one [] j = refl
-get_d_drop_one (x ∷ xs) j = refl
+get_or-drop_one : (xs : List ℕ) (j : ℕ) → get_or (drop 1 xs) j 0 ≡ get_or xs (suc j) 0
+get_or-drop_one [] j = refl
+get_or-drop_one (x ∷ xs) j = refl
 
 length_drop_one : (xs : List ℕ) → length xs ≡ 64 → length (drop 1 xs) ≡ 63
 length_drop_one [] e = absurd (omega arith)
@@ -182,7 +182,7 @@ cells_after : (bs : List ℕ) (j : ℕ) → j < length (drop 1 (cells_of bs)) �
 cells_after bs j h =
     let n = length_drop_one (cells_of bs) (length_cells_of bs) in
     let a : suc j ≡ 1 + j = omega arith in
-    get_d_drop_one (cells_of bs) j ∙ at_cells_of bs (suc j) (omega arith) ∙ ap (cell_at bs) a
+    get_or-drop_one (cells_of bs) j ∙ at_cells_of bs (suc j) (omega arith) ∙ ap (cell_at bs) a
 
 -- the parts of a page with no fault
 parts : (ts : List Descriptor) (p n : ℕ) (bs : List ℕ) → first_fault p n bs ts ≡ Ok tt → (head_of bs ≤ 63) × (objects_fault p n bs ts 1 (head_of bs) 0 ≡ Ok tt) × (unused_fault n bs (head_of bs + 1) (63 - head_of bs) ≡ Ok tt)
@@ -208,19 +208,19 @@ valid_ends ts p n bs e =
 
 -- zero after the used cells
 zeros_after : (ts : List Descriptor) (p n : ℕ) (bs : List ℕ) → first_fault p n bs ts ≡ Ok tt → (j : ℕ) → head_of bs ≤ j → get_or (drop 1 (cells_of bs)) j 0 ≡ 0
-zeros_after ts p n bs e j h = get_d_drop_one (cells_of bs) j ∙ (valid_ends ts p n bs e).2 (suc j) (omega arith)
+zeros_after ts p n bs e j h = get_or-drop_one (cells_of bs) j ∙ (valid_ends ts p n bs e).2 (suc j) (omega arith)
 
 pub valid_links : ValidLinks
 valid_links ts p n bs zero e y = absurd (both_ways _ (links_zero ts (cells_of bs)) y)
 valid_links ts p n bs (suc i) e y =
     let xs = cells_of bs in
-    ap (is_link p) (sym (get_d_drop_one xs i))
+    ap (is_link p) (sym (get_or-drop_one xs i))
     ∙ links_ok p n bs ts 1 (head_of bs) 0 0 (drop 1 xs) (omega arith) (omega arith) (cells_after bs) (zeros_after ts p n bs e) (parts ts p n bs e).1 (λ j q. absurd (omega arith)) i (sym (links_drop ts xs i) ∙ y)
 
 pub valid_starts : ValidStarts
 valid_starts ts p n bs zero e y = absurd (both_ways _ (starts_zero ts (cells_of bs)) y)
 valid_starts ts p n bs (suc k) e y =
     let xs = cells_of bs in
-    let at = get_d_drop_one xs k in
+    let at = get_or-drop_one xs k in
     let r = starts_ok p n bs ts 1 (head_of bs) 0 (drop 1 xs) (omega arith) (omega arith) (cells_after bs) (zeros_after ts p n bs e) (parts ts p n bs e).1 k (sym (starts_drop ts xs k) ∙ y) in
     (omega arith, ap (declared ts) (sym at) ∙ r.0, omega (arith, r.1, ap (λ x. (kind_of ts x).size) at))

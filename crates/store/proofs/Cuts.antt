@@ -12,13 +12,13 @@ use Rattle.store.proofs.Steps.{page_bounds, open_outside}
 abbrev pub page : Bool → List ℕ → Page
 page w bs = record { content = bytes bs; writable = w }
 
-pub get_d_cut : (w : Bool) (k : ℕ) (bs : List ℕ) (i : ℕ) (d : Page) → i < k → get_or (cut w k bs) i d ≡ page w (take 512 (drop (i * 512) bs))
-get_d_cut w zero bs i d h = absurd (omega arith)
-get_d_cut w (suc k) bs zero d h = refl
-get_d_cut w (suc k) bs (suc i) d h =
+pub get_or-cut : (w : Bool) (k : ℕ) (bs : List ℕ) (i : ℕ) (d : Page) → i < k → get_or (cut w k bs) i d ≡ page w (take 512 (drop (i * 512) bs))
+get_or-cut w zero bs i d h = absurd (omega arith)
+get_or-cut w (suc k) bs zero d h = refl
+get_or-cut w (suc k) bs (suc i) d h =
     let e : 512 + i * 512 ≡ suc i * 512 = omega arith in
     let l : i < k = omega arith in
-    get_d_cut w k (drop 512 bs) i d l ∙ ap (λ t. page w (take 512 t)) (drop-drop (i * 512) 512 bs ∙ ap (λ m. drop m bs) e)
+    get_or-cut w k (drop 512 bs) i d l ∙ ap (λ t. page w (take 512 t)) (drop-drop (i * 512) 512 bs ∙ ap (λ m. drop m bs) e)
 
 -- place j of the row, after a write over place i
 module _ (bs ys : List ℕ) (i : ℕ) (hi : i * 512 + 512 ≤ length bs) (hy : length ys ≡ 512) where
@@ -57,7 +57,7 @@ set_cut w k bs ys i h hk hy =
     let lj : j < k = rw length_cut at hj in
     let in-j : j * 512 + 512 ≤ length bs = omega arith in
     let li : i < length (cut w k bs) = rw length_cut h in
-    get_d_cut w k new j d lj
+    get_or-cut w k new j d lj
     ∙ ⊎_elim
     (λ (e : i ≡ j).
     ap (λ m. page w (take 512 (drop (m * 512) new))) (sym e)
@@ -66,7 +66,7 @@ set_cut w k bs ys i h hk hy =
     ∙ ap (λ m. get_or (set (cut w k bs) i (page w ys)) m d) e)
     (λ (ne : i ≡ j → ⊥).
     ap (page w) (other_part bs ys i in-i hy j in-j ne)
-    ∙ sym (get_d_cut w k bs j d lj)
+    ∙ sym (get_or-cut w k bs j d lj)
     ∙ sym (get_or-set_other (cut w k bs) i j (page w ys) d (λ e. ne (sym e))))
     (cases_eq i j))
 
@@ -83,7 +83,7 @@ module _ (w : Bool) (bs : List ℕ) where
       let b = paged_bounds (suc i) h in
       let l : i < page_count bs = omega arith in
       let e : i ≡ suc i - 1 = omega arith in
-      get_d_cut w (page_count bs) bs i no_page l ∙ ap (λ m. page w (take 512 (drop (m * 512) bs))) e
+      get_or-cut w (page_count bs) bs i no_page l ∙ ap (λ m. page w (take 512 (drop (m * 512) bs))) e
 
   pub open_paged : (n : ℕ) → is_page (paged w bs) n ≡ true → open_at (paged w bs) n ≡ w
   open_paged n h = ap (λ (p : Page). p.writable) (page_paged n h)
