@@ -23,18 +23,13 @@ impl fmt::Display for BadLine<'_> {
         match self.why {
             Why::Numbers(mistake) => write!(f, "line {line}: {mistake}"),
             Why::Refused(fault) => {
-                let cause = fault.cause;
-                let words = words_of(fault);
-                write!(f, "line {line}: refused by {cause}, {words}")
+                let number = fault.cause;
+                match Cause::try_from(number) {
+                    Ok(cause) => write!(f, "line {line}: refused by {number}, {cause}"),
+                    Err(_) => write!(f, "line {line}: refused by {number}, a cause of another store"),
+                }
             }
         }
-    }
-}
-
-fn words_of(fault: Fault) -> &'static str {
-    match Cause::numbered(fault.cause) {
-        Some(cause) => cause.words(),
-        None => "a cause of another store",
     }
 }
 

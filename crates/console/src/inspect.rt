@@ -116,12 +116,9 @@ fn write_objects<W: Write>(
 
 // The fault in words, where it is one of ours.
 fn write_remark<W: Write>(out: &mut W, fault: Fault) -> io::Result<()> {
-    match Cause::numbered(fault.cause) {
-        Some(cause) => {
-            let words = cause.words();
-            writeln!(out, "  # {words}")
-        }
-        None => writeln!(out),
+    match Cause::try_from(fault.cause) {
+        Ok(cause) => writeln!(out, "  # {cause}"),
+        Err(_) => writeln!(out),
     }
 }
 

@@ -1,32 +1,32 @@
-// Why a call is refused. A fault names a cause by its number.
-#[derive(Clone, Copy)]
+// Why a call is refused, each cause with the number by which a fault names it.
+#[derive(Clone, Copy, Debug, PartialEq, Eq)]
 pub enum Cause {
-    BadPlan,
-    CatalogueFull,
-    FieldCount,
-    LinkMask,
-    NoCursor,
-    EmptyCursor,
-    NoField,
-    WrongKind,
-    AbsentLink,
-    NoPage,
-    CheckDiffers,
-    HeadTooLarge,
-    UndeclaredType,
-    ObjectTooLong,
-    BadLink,
-    NotZero,
-    NoAddresses,
-    NoObject,
-    PageClosed,
-    NoRoom,
-    NoType,
-    WrongLength,
+    BadPlan = 1,
+    CatalogueFull = 2,
+    FieldCount = 3,
+    LinkMask = 4,
+    NoCursor = 5,
+    EmptyCursor = 6,
+    NoField = 7,
+    WrongKind = 8,
+    AbsentLink = 9,
+    NoPage = 10,
+    CheckDiffers = 12,
+    HeadTooLarge = 13,
+    UndeclaredType = 14,
+    ObjectTooLong = 15,
+    BadLink = 16,
+    NotZero = 17,
+    NoAddresses = 18,
+    NoObject = 19,
+    PageClosed = 20,
+    NoRoom = 21,
+    NoType = 22,
+    WrongLength = 23,
 }
 
-// A page, a cell and a field; page 0, cell 64 and field 63 mean none.
-#[derive(Clone, Copy)]
+// A page, a cell and a field, by the numbers that a refusal is fixed to show: page 0, cell 64 and field 63 mean none.
+#[derive(Clone, Copy, Debug, PartialEq, Eq)]
 pub struct Place {
     pub page: u64,
     pub cell: u64,
@@ -34,7 +34,7 @@ pub struct Place {
 }
 
 // A refusal. The cause is a number, since a store of another kind has causes of its own.
-#[derive(Clone, Copy)]
+#[derive(Clone, Copy, Debug, PartialEq, Eq)]
 pub struct Fault {
     pub cause: u32,
     pub layer: u32,
