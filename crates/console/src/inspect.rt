@@ -3,7 +3,7 @@ use crate::lines::{PageLine, Totals};
 use crate::names::{field_name, type_name};
 use fault::{Cause, Fault};
 use inspection::{Survey, inspect_page, object_type};
-use page::{ClosedCatalogue, Descriptor, Link, Part, Reader, cell, to_link};
+use page::{ClosedCatalogue, Descriptor, Part, Reader, cell, to_link};
 use std::io;
 use std::io::Write;
 use store::Store;
@@ -44,7 +44,7 @@ fn write_number<W: Write>(out: &mut W, number: u64, link: bool, pages: u64) -> i
         return write!(out, " {number}");
     }
     match to_link(number, pages) {
-        Some(Link::To { page, cell }) => write!(out, " {page}:{cell}"),
+        Ok(Some(at)) => write!(out, " {}:{}", at.page, at.cell),
         _ => write!(out, " absent"),
     }
 }

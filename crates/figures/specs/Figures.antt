@@ -1,6 +1,8 @@
 -- The worked figures: pages with the studio's catalogue and 8 pages, and the checks layer. Assumes nothing.
-use Rattle.std.specs.Prelude.{◌≡◌, ℕ, List, [], ◌∷◌, replicate, Some, None, Ok, Err, Option, slice_set}
+use Rattle.std.specs.Prelude.{◌≡◌, ℕ, List, [], ◌∷◌, replicate, Some, Ok, Err, Option, Result, slice_set}
 use Rattle.std.specs.List.{flat_map}
+use Rattle.fault.specs.declared.kinds.Cause.{Cause}
+use Rattle.fault.specs.declared.kinds.Cause.TheVariants.{BadLink}
 use Rattle.fault.specs.declared.kinds.Fault.{Fault}
 use Rattle.fault.specs.declared.kinds.Place.{Place}
 use Rattle.fault.specs.Faults.{on_cell, on_field, nowhere}
@@ -9,10 +11,9 @@ use Rattle.checks.specs.Layer.{check, checked_count, check_page, check_cell}
 use Rattle.page.specs.Cells.{cell_at, bytes_of}
 use Rattle.page.specs.Descriptors.{studio_types}
 use Rattle.page.specs.Form.{examined}
-use Rattle.page.specs.Links.{link_of}
+use Rattle.page.specs.Links.{position, link_of}
 use Rattle.page.specs.Parts.{Part, object, unused, parts_of}
-use Rattle.page.specs.declared.link.Link.{Link}
-use Rattle.page.specs.declared.link.Link.TheVariants.{To}
+use Rattle.page.specs.declared.link.Position.{Position}
 
 -- the cells of a page, each given with its number; all others are zero
 abbrev pub Cells : Type 0
@@ -36,8 +37,8 @@ abbrev pub refused : ℕ → Place → Checked (Unit {0})
 refused cause at = Err (record { cause = cause; layer = 3; place = at; link = nowhere })
 
 pub data Figure : Type 0 where
-  -- the number names this as a link, or is none
-  names : ℕ → Option Link → Figure
+  -- the number names this as a link, or is refused
+  names : ℕ → Result (Option Position) Cause → Figure
   -- page 1 with these cells is judged so
   judged : Cells → Checked (Unit {0}) → Figure
   -- it has objects of these types
@@ -63,11 +64,11 @@ Each (f ∷ fs) = Holds f × Each fs
 
 abbrev pub table : List Figure
 table =
-    names 129 (Some (To 2 1))
-    ∷ names 63 None
-    ∷ names 64 None
-    ∷ names 575 (Some (To 8 63))
-    ∷ names 577 None
+    names 129 (Ok (Some (position 2 1)))
+    ∷ names 63 (Err BadLink)
+    ∷ names 64 (Err BadLink)
+    ∷ names 575 (Ok (Some (position 8 63)))
+    ∷ names 577 (Err BadLink)
     ∷ judged ((0, 4) ∷ (1, 5) ∷ (3, 577) ∷ []) (refused 16 (on_field 1 1 1))
     ∷ judged ((0, 4) ∷ (1, 5) ∷ []) (Ok tt)
     ∷ has ((0, 4) ∷ (1, 5) ∷ []) (5 ∷ [])

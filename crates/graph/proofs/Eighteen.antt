@@ -10,10 +10,9 @@ use Rattle.page.specs.Descriptors.{declared, linked, type_of}
 use Rattle.page.specs.Form.{head_of, type_at}
 use Rattle.store.specs.Pages.{is_page}
 use Rattle.store.specs.Rules.{open_at}
-use Rattle.graph.specs.declared.calls.Answer.TheVariants.{Refused}
 use Rattle.graph.specs.declared.calls.Call.{Call}
 use Rattle.graph.specs.declared.calls.Call.TheVariants.{Stand, Follow, Read, Target, Note, Join, Part, Add, Leave, Where, Glance, Slot, Save}
-use Rattle.graph.specs.declared.calls.Position.{Position}
+use Rattle.page.specs.declared.link.Position.{Position}
 use Rattle.graph.specs.declared.calls.Value.{Value}
 use Rattle.graph.specs.Graphs.{Graph, Setting, opening}
 use Rattle.graph.specs.Laws.{AllWhole, TooMany, EighteenAtCalls}
@@ -115,7 +114,7 @@ all_told s g w (Glance c f) = let a = Glance c f in bind_denies (range s g w a c
 all_told s g w (Slot i) = passed
 all_told s g w Save = passed
 
-told : {P : Fault → Type 0} (g : Graph) (r : Checked (Value × Graph)) (e : Fault) → Denies P r → (settled g r).0 ≡ Refused e → P e
+told : {P : Fault → Type 0} (g : Graph) (r : Checked (Value × Graph)) (e : Fault) → Denies P r → (settled g r).0 ≡ Err e → P e
 told g (Ok x) e h q = let z : ◌≡◌ {A = ℕ} 0 1 = cc in absurd (omega arith)
 told g (Err d) e h q = let z : d ≡ e = cc in denied (Err d) e h (ap (λ y. Err y) z)
 

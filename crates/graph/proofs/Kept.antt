@@ -13,7 +13,7 @@ use Rattle.store.specs.Pages.{bytes, Page, no_page, page_at, Whole}
 use Rattle.store.specs.Rules.{written}
 use Rattle.graph.specs.declared.calls.Call.{Call}
 use Rattle.graph.specs.declared.calls.Call.TheVariants.{Stand, Follow, Read, Target, Note, Join, Part, Add, Leave, Where, Glance, Slot, Save}
-use Rattle.graph.specs.declared.calls.Position.{Position}
+use Rattle.page.specs.declared.link.Position.{Position}
 use Rattle.graph.specs.declared.calls.Value.{Value}
 use Rattle.graph.specs.Edits.{put_all, changed_bytes, changed}
 use Rattle.graph.specs.Graphs.{Graph, Setting, opened}

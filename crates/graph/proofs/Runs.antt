@@ -10,7 +10,7 @@ use Rattle.store.specs.Pages.{bytes, Page, no_page, page_at}
 use Rattle.store.specs.Rules.{written}
 use Rattle.graph.specs.declared.calls.Call.{Call}
 use Rattle.graph.specs.declared.calls.Call.TheVariants.{Stand, Follow, Read, Target, Note, Join, Part, Add, Leave, Where, Glance, Slot, Save}
-use Rattle.graph.specs.declared.calls.Position.{Position}
+use Rattle.page.specs.declared.link.Position.{Position}
 use Rattle.graph.specs.declared.calls.Value.{Value}
 use Rattle.graph.specs.declared.calls.Value.TheVariants.{Done, Number}
 use Rattle.graph.specs.Edits.{Edit, put_all, changed_bytes, changed_page, changed, made, touched, at_place, field_edit, asked, when_granted, edits_of}

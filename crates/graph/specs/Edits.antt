@@ -1,18 +1,16 @@
 -- Edits, made on pages alone. Assumes nothing.
-use Rattle.std.specs.Prelude.{ℕ, zero, suc, ◌+◌, ◌%◌, ◌^◌, Bool, false, cond, ◌||◌, List, [], ◌∷◌, ◌++◌, Some, None, Option, ◌==◌, slice_index_or, slice_set}
+use Rattle.std.specs.Prelude.{ℕ, zero, suc, ◌+◌, ◌%◌, ◌^◌, Bool, false, cond, ◌||◌, List, [], ◌∷◌, ◌++◌, Some, None, Ok, Err, Option, ◌==◌, slice_index_or, slice_set}
 use Rattle.page.specs.declared.descriptor.Descriptor.{Descriptor}
 use Rattle.page.specs.Cells.{put_cell}
 use Rattle.page.specs.Descriptors.{type_of}
 use Rattle.store.specs.Pages.{Content, bytes, marked, Page, no_page}
-use Rattle.graph.specs.declared.calls.Answer.{Answer}
-use Rattle.graph.specs.declared.calls.Answer.TheVariants.{Granted, Refused}
 use Rattle.graph.specs.declared.calls.Call.{Call}
-use Rattle.graph.specs.declared.calls.Call.TheVariants.{Stand, Follow, Read, Target, Note, Join, Part, Add, Leave, Where, Glance, Slot, Save}
-use Rattle.graph.specs.declared.calls.Position.{Position}
+use Rattle.graph.specs.declared.calls.Call.TheVariants.{Note, Join, Part, Add}
+use Rattle.page.specs.declared.link.Position.{Position}
 use Rattle.graph.specs.declared.calls.Value.{Value}
-use Rattle.graph.specs.declared.calls.Value.TheVariants.{Done, Number, At, Names, Page as Owner, Unsettled}
+use Rattle.graph.specs.declared.calls.Value.TheVariants.{Number}
 use Rattle.graph.specs.Graphs.{Graph, Setting}
-use Rattle.graph.specs.Steps.{pointer, step}
+use Rattle.graph.specs.Steps.{Answer, pointer, step}
 
 -- numbers put into cells of one page, one after another
 pub record Edit : Type 0 where
@@ -61,11 +59,7 @@ at_place (Some at) f = f at
 
 abbrev pub number_in : Value → ℕ
 number_in (Number x) = x
-number_in Done = 0
-number_in (At at) = 0
-number_in (Names l) = 0
-number_in (Owner o) = 0
-number_in Unsettled = 0
+number_in _ = 0
 
 -- x in field f of the object there
 abbrev pub field_edit : Position → ℕ → ℕ → List Edit
@@ -81,19 +75,11 @@ asked ts cs (Note c f x) v = at_place (slice_index_or cs c None) (λ at. field_e
 asked ts cs (Join c f d) v = at_place (slice_index_or cs c None) (λ at. at_place (slice_index_or cs d None) (λ to. field_edit at f (pointer to)))
 asked ts cs (Part c f) v = at_place (slice_index_or cs c None) (λ at. field_edit at f 0)
 asked ts cs (Add c t n) v = object_edit n (number_in v) t (type_of ts t).size
-asked ts cs (Stand c n k) v = []
-asked ts cs (Follow c f d) v = []
-asked ts cs (Read c f) v = []
-asked ts cs (Target c f) v = []
-asked ts cs (Leave c) v = []
-asked ts cs (Where c) v = []
-asked ts cs (Glance c f) v = []
-asked ts cs (Slot i) v = []
-asked ts cs Save v = []
+asked ts cs _ v = []
 
 abbrev pub when_granted : Answer → (Value → List Edit) → List Edit
-when_granted (Granted v) f = f v
-when_granted (Refused e) f = []
+when_granted (Ok v) f = f v
+when_granted (Err e) f = []
 
 -- the granted edits of a run, in order
 abbrev pub edits_of : Setting → Graph → List Call → List Edit

@@ -9,7 +9,7 @@ use Rattle.page.specs.Walks.{cells_of, links_to}
 use Rattle.store.specs.Pages.{Page, page_at}
 use Rattle.store.specs.Rules.{readable, held_by}
 use Rattle.pageset.specs.Sets.{tally}
-use Rattle.graph.specs.declared.calls.Position.{Position}
+use Rattle.page.specs.declared.link.Position.{Position}
 
 pub record Graph : Type 0 where
   pub pages : List Page

@@ -8,7 +8,6 @@ use Rattle.page.specs.declared.descriptor.Descriptor.{Descriptor}
 use Rattle.page.specs.Cells.{cell_at}
 use Rattle.page.specs.Form.{first_fault}
 use Rattle.store.specs.Pages.{bytes, Page, page_at, Whole}
-use Rattle.graph.specs.declared.calls.Answer.TheVariants.{Refused}
 use Rattle.graph.specs.declared.calls.Call.{Call}
 use Rattle.graph.specs.Edits.{edits_of, made, touched, last_of}
 use Rattle.graph.specs.Graphs.{Graph, Setting, wanted_count, opening}
@@ -49,7 +48,7 @@ CellsLast =
 
 -- a refused call changes nothing
 abbrev pub RefusedUnchanged : Type 0
-RefusedUnchanged = (s : Setting) (g : Graph) (c : Call) (e : Fault) → (step s g c).0 ≡ Refused e → (step s g c).1 ≡ g
+RefusedUnchanged = (s : Setting) (g : Graph) (c : Call) (e : Fault) → (step s g c).0 ≡ Err e → (step s g c).1 ≡ g
 
 -- page n is readable and lawful, with these bytes
 pub record LawfulPage (ts : List Descriptor) (ps : List Page) (n : ℕ) (bs : List ℕ) : Type 0 where
@@ -72,8 +71,8 @@ EighteenExactly = (s : Setting) (g : Graph) (n : ℕ) → AllWhole g.pages → R
 
 -- a call is refused with 18 exactly where it comes to open a page for which too many are wanted
 pub record RunsOutAt (s : Setting) (g : Graph) (c : Call) : Type 0 where
-  pub refused : (n : ℕ) → Opens s g c n → TooMany s g n → (l : Place) × ((step s g c).0 ≡ Refused (via l (fault NoAddresses 4 (on_page n))))
-  pub only : (e : Fault) → (step s g c).0 ≡ Refused e → e.cause ≡ 18 → Opens s g c e.place.page × TooMany s g e.place.page
+  pub refused : (n : ℕ) → Opens s g c n → TooMany s g n → (l : Place) × ((step s g c).0 ≡ Err (via l (fault NoAddresses 4 (on_page n))))
+  pub only : (e : Fault) → (step s g c).0 ≡ Err e → e.cause ≡ 18 → Opens s g c e.place.page × TooMany s g e.place.page
 
 abbrev pub EighteenAtCalls : Type 0
 EighteenAtCalls = (s : Setting) (g : Graph) (c : Call) → AllWhole g.pages → RunsOutAt s g c

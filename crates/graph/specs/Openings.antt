@@ -4,7 +4,7 @@ use Rattle.page.specs.Descriptors.{declared}
 use Rattle.store.specs.Pages.{is_page}
 use Rattle.graph.specs.declared.calls.Call.{Call}
 use Rattle.graph.specs.declared.calls.Call.TheVariants.{Stand, Follow, Read, Target, Note, Join, Part, Add, Glance}
-use Rattle.graph.specs.declared.calls.Position.{Position}
+use Rattle.page.specs.declared.link.Position.{Position}
 use Rattle.graph.specs.Graphs.{Graph, Setting}
 use Rattle.graph.specs.Steps.{Spot, held, link_field}
 

@@ -3,7 +3,7 @@ use Rattle.std.specs.Prelude.{◌≡◌, ℕ, ◌≤◌, true, List, length, Som
 use Rattle.page.specs.declared.descriptor.Descriptor.{Descriptor}
 use Rattle.store.specs.Pages.{Page}
 use Rattle.graph.specs.declared.calls.Call.{Call}
-use Rattle.graph.specs.declared.calls.Position.{Position}
+use Rattle.page.specs.declared.link.Position.{Position}
 use Rattle.graph.specs.Graphs.{Graph, Setting, opened}
 use Rattle.graph.specs.Laws.{AllWhole, LawfulPage}
 use Rattle.graph.specs.Steps.{starts_at, final}

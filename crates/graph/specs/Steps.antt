@@ -1,23 +1,20 @@
 -- The calls and their refusals. Assumes nothing.
-use Rattle.std.specs.Prelude.{ℕ, ◌+◌, ◌-◌, ◌*◌, ◌/◌, ◌%◌, Bool, false, cond, not, List, [], ◌∷◌, Some, None, Ok, Err, Option, ◌==◌, nat_le, nat_lt, slice_index_or, slice_set}
+use Rattle.std.specs.Prelude.{ℕ, ◌+◌, ◌-◌, ◌*◌, Bool, false, cond, not, List, [], ◌∷◌, Some, None, Ok, Err, Option, ◌==◌, nat_le, nat_lt, slice_index_or, slice_set}
 use Rattle.fault.specs.declared.kinds.Cause.TheVariants.{NoCursor, EmptyCursor, NoField, WrongKind, AbsentLink, NoPage, NoObject, PageClosed, NoRoom, NoType}
 use Rattle.fault.specs.declared.kinds.Place.{Place}
 use Rattle.fault.specs.Faults.{nowhere, on_page, on_cell, on_field, fault, via}
 use Rattle.fault.specs.Refusals.{Checked, ◌>>=◌, ◌>>◌, ◌else◌, ◌otherwise◌}
 use Rattle.page.specs.declared.descriptor.Descriptor.{Descriptor}
-use Rattle.page.specs.declared.link.Link.{Link}
-use Rattle.page.specs.declared.link.Link.TheVariants.{Absent, To}
 use Rattle.page.specs.Cells.{put_cell}
 use Rattle.page.specs.Descriptors.{declared, linked, type_of}
 use Rattle.page.specs.Form.{head_of, field_at, type_at}
+pub use Rattle.page.specs.Links.{position, pointed, named}
 use Rattle.page.specs.Walks.{cells_of, start_cells}
 use Rattle.store.specs.Pages.{is_page}
 use Rattle.store.specs.Rules.{open_at, written}
-use Rattle.graph.specs.declared.calls.Answer.{Answer}
-use Rattle.graph.specs.declared.calls.Answer.TheVariants.{Granted, Refused}
 use Rattle.graph.specs.declared.calls.Call.{Call}
 use Rattle.graph.specs.declared.calls.Call.TheVariants.{Stand, Follow, Read, Target, Note, Join, Part, Add, Leave, Where, Glance, Slot, Save}
-use Rattle.graph.specs.declared.calls.Position.{Position}
+use Rattle.page.specs.declared.link.Position.{Position}
 use Rattle.graph.specs.declared.calls.Value.{Value}
 use Rattle.graph.specs.declared.calls.Value.TheVariants.{Done, Number, At, Names, Unsettled}
 use Rattle.graph.specs.Graphs.{Graph, Setting, opening}
@@ -36,19 +33,9 @@ on_spot o = on_field o.page o.cell o.field
 abbrev pub held : Spot → ℕ
 held o = field_at o.bytes o.cell o.field
 
-abbrev pub position : ℕ → ℕ → Position
-position n k = record { page = n; cell = k }
-
--- the long pointer of a position, and what a long pointer names
+-- the long pointer of a position
 abbrev pub pointer : Position → ℕ
 pointer at = 64 * at.page + at.cell
-
-abbrev pub pointed : ℕ → Position
-pointed x = position (x / 64) (x % 64)
-
--- what a link names
-abbrev pub named : ℕ → Link
-named x = cond (x == 0) Absent (To (x / 64) (x % 64))
 
 -- cell 0 stands for cell 1
 abbrev pub first : ℕ → ℕ
@@ -135,7 +122,7 @@ module _ (s : Setting) (g : Graph) where
     o ← number_field c f
     Ok (held o)
 
-  abbrev pub target : ℕ → ℕ → Checked Link
+  abbrev pub target : ℕ → ℕ → Checked (Option Position)
   target c f = do
     cursor c
     o ← link_field c f
@@ -221,10 +208,14 @@ module _ (s : Setting) (g : Graph) where
   granted (Slot i) = Ok (Unsettled, g)
   granted Save = Ok (Done, g)
 
+-- what a call answers
+abbrev pub Answer : Type 0
+Answer = Checked Value
+
 -- a refused call leaves the graph as it is
 abbrev pub settled : Graph → Checked (Value × Graph) → Answer × Graph
-settled g (Ok x) = (Granted x.0, x.1)
-settled g (Err e) = (Refused e, g)
+settled g (Ok x) = (Ok x.0, x.1)
+settled g (Err e) = (Err e, g)
 
 abbrev pub step : Setting → Graph → Call → Answer × Graph
 step s g c = settled g (granted s g c)

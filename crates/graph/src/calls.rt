@@ -1,15 +1,8 @@
 // The words of the graph's calls.
 use fault::Fault;
-use page::Link;
+use page::Position;
 
-// Where an object starts.
-#[derive(Clone, Copy)]
-pub struct Position {
-    pub page: u64,
-    pub cell: u64,
-}
-
-#[derive(Clone, Copy)]
+#[derive(Clone, Copy, Debug, PartialEq, Eq)]
 pub enum Call {
     Stand {
         cursor: u64,
@@ -65,23 +58,19 @@ pub enum Call {
 }
 
 // What a granted call answers.
-#[derive(Clone, Copy)]
+#[derive(Clone, Copy, Debug, PartialEq, Eq)]
 pub enum Value {
     Done,
     // of read, the number; of add, the cell; of glance as it is shown, the frame's cell
     Number(u64),
-    // of where
+    // of where: where the object starts
     At(Position),
     // of target, and of glance in the graph: what the link names
-    Names(Link),
+    Names(Option<Position>),
     // of slot as it is shown: the page that the slot belongs to
     Page(Option<u64>),
     // of slot in the graph, which knows no slots
     Unsettled,
 }
 
-#[derive(Clone, Copy)]
-pub enum Answer {
-    Granted(Value),
-    Refused(Fault),
-}
+pub type Answer = Result<Value, Fault>;

@@ -4,7 +4,8 @@
 mod calls;
 mod laws;
 
-pub use calls::{Answer, Call, Position, Value};
+pub use calls::{Answer, Call, Value};
 pub use laws::{
     cells_law_stands, edits_law_stands, eighteen_law_stands, lawful_law_stands, refusals_law_stands,
 };
+pub use page::Position;

@@ -16,7 +16,7 @@ pub(crate) const LAYER: u32 = 3;
 fn is_link(number: u64, pages: u64) -> bool
     ensures { result ≡ is_link pages number }
 {
-    to_link(number, pages).is_some()
+    to_link(number, pages).is_ok()
 }
 
 fn links_fault(

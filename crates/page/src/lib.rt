@@ -13,6 +13,6 @@ pub use catalogue::{ClosedCatalogue, DeclaringCatalogue};
 pub use cells::{cell, put_cell};
 pub use descriptor::Descriptor;
 pub use form::first_fault;
-pub use link::{Link, to_link};
+pub use link::{Position, to_link};
 pub use reader::{Part, Reader};
 pub use studio::studio_catalogue;
