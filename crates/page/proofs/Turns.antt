@@ -1,10 +1,9 @@
 -- One step of a reader. Assumes nothing.
-use Rattle.std.proofs.Common.{◌≡◌, ℕ, zero, suc, ◌+◌, ◌-◌, ◌*◌, ◌<◌, ◌≤◌, List, length, take, drop, Ok, Err, sym, ap, ◌∙◌, arith}
-use Rattle.std.proofs.lemmas.Slice.{between_to_end}
+use Rattle.std.proofs.Common.{◌≡◌, ℕ, zero, suc, ◌+◌, ◌-◌, ◌*◌, ◌≤◌, List, take, drop, Ok, Err, sym, ap, ◌∙◌, arith}
 use Rattle.std.proofs.lemmas.Bool.{le-leb}
 use Rattle.fault.specs.declared.kinds.Fault.{Fault}
-use Rattle.page.specs.Form.{object_at, unused_fault}
-use Rattle.page.specs.Parts.{Remaining, object, unused, before, only, nothing, cell_bytes, last_part, object_part, head_part, parts_from}
+use Rattle.page.specs.Form.{object_at}
+use Rattle.page.specs.Parts.{Remaining, object, before, only, cell_bytes, object_part, head_part, parts_from}
 use Rattle.page.specs.Types.{by_stage}
 use Rattle.page.specs.declared.descriptor.Descriptor.{Descriptor}
 use Rattle.page.specs.declared.reader.Stage.{Stage}
@@ -15,10 +14,6 @@ pub bytes_of : (bs : List ℕ) (k s : ℕ) → take (8 * (k + 1 + s) - 8 * k) (d
 bytes_of bs k s =
     let e : 8 * (k + 1 + s) - 8 * k ≡ 8 * (1 + s) = omega arith in
     ap (λ n. take n (drop (8 * k) bs)) e
-
--- `&bytes[8 * k..]`
-pub bytes_rest : (bs : List ℕ) (k : ℕ) → take (length bs - 8 * k) (drop (8 * k) bs) ≡ drop (8 * k) bs
-bytes_rest bs k = between_to_end bs (8 * k) (length bs) (omega arith)
 
 module _ (ts : List Descriptor) (p n : ℕ) (bs : List ℕ) (u : ℕ) where
   parts_skip : (k m s t : ℕ) → t ≡ s + m → parts_from ts p n bs u k t s ≡ parts_from ts p n bs u (k + s) m 0
@@ -54,9 +49,3 @@ module _ (ts : List Descriptor) (p n : ℕ) (bs : List ℕ) (u : ℕ) where
 
     pub read_fault : (e : Fault) → k ≤ u → Err e ≡ object_at p n bs ts k → at st k ≡ only e
     read_fault x h e = opened h ∙ ap (λ r. object_part bs k r (λ s. parts_from ts p n bs u (k + 1) (u - k) s)) (sym e)
-
-    pub read_rest : u < k → k ≤ u + 1 → Ok tt ≡ unused_fault n bs (u + 1) (63 - u) → at st k ≡ before (unused k (drop (8 * k) bs)) nothing
-    read_rest h l e =
-        let e₁ : u + 1 - k ≡ 0 = omega arith in
-        let e₂ : u + 1 ≡ k = omega arith in
-        left ∙ ap (λ m. parts_from ts p n bs u k m 0) e₁ ∙ ap (last_part bs (u + 1)) (sym e) ∙ ap (λ i. before (unused i (drop (8 * i) bs)) nothing) e₂

@@ -1,5 +1,5 @@
 -- A reader ends as the page's first fault says, and its parts are the page. Assumes nothing.
-use Rattle.std.proofs.Common.{◌≡◌, ℕ, zero, suc, ◌+◌, ◌-◌, ◌*◌, ◌≤◌, Bool, true, false, cond, eqb, leb, List, ◌++◌, length, drop, Ok, Err, sym, refl, ap, ◌∙◌, append-nil, arith, take-append-drop}
+use Rattle.std.proofs.Common.{◌≡◌, ℕ, zero, suc, ◌+◌, ◌-◌, ◌*◌, ◌≤◌, Bool, true, false, cond, eqb, leb, List, ◌++◌, length, drop, Ok, Err, sym, refl, ap, ◌∙◌, subst, append-nil, arith, take-append-drop}
 use Rattle.std.specs.Result.{result_err}
 use Rattle.std.proofs.lemmas.List.{drop-drop}
 use Rattle.std.proofs.lemmas.Bool.{cond_both, leb-true}
@@ -89,3 +89,7 @@ few_parts ts p n bs =
     cond_both (leb (head_of bs) 63) _ _ P
     (λ e. omega (arith, leb-true (head_of bs) 63 e, from_few ts p n bs (head_of bs) 1 (head_of bs) 0))
     (λ _. omega arith)
+
+-- whatever is equal to it
+pub faithful_as : (ts : List Descriptor) (p n : ℕ) (bs : List ℕ) (l : Checked Remaining) → l ≡ reader_of ts p n bs → Faithful l (examined p n bs ts) bs
+faithful_as ts p n bs l e = let P : Checked Remaining → Type 0 = λ x. Faithful x (examined p n bs ts) bs in subst P (sym e) (faithful ts p n bs)

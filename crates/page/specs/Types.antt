@@ -32,7 +32,7 @@ by_stage (Refused e) l = only e
 -- what a reader has yet to hand out
 abbrev pub remaining : Reader → Remaining
 remaining r =
-    by_stage r.stage (head_part r.page r.used (parts_from (types r.catalogue.now) r.pages r.page r.bytes.now r.used r.cell (r.used + 1 - r.cell) 0))
+    by_stage r.stage (head_part r.page.number r.used (parts_from (types r.page.catalogue.now) r.page.pages r.page.number r.page.bytes.now r.used r.cell (r.used + 1 - r.cell) 0))
 
 abbrev pub remaining_of : Checked Reader → Checked Remaining
 remaining_of (Ok r) = Ok (remaining r)

@@ -1,10 +1,10 @@
 // A reader that hands out the parts of a page, borrowed from the page's own bytes.
-ghost use Rattle.std.specs.Prelude.{◌≡◌, ◌+◌, ◌≤◌, length};
+ghost use Rattle.std.specs.Prelude.{◌≡◌, ◌+◌, ◌≤◌};
 ghost use Rattle.page.specs.Form.{head_of};
 
 mod steps;
 
-use crate::catalogue::ClosedCatalogue;
+use crate::form::Page;
 use fault::Fault;
 
 // An object from its header on, or last the cells that no object uses; each with its first cell.
@@ -23,14 +23,10 @@ enum Stage {
 
 #[derive(Clone, Copy)]
 pub struct Reader<'a, 'k> {
-    bytes: &'a [u8],
-    page: u64,
-    pages: u64,
-    catalogue: &'k ClosedCatalogue,
+    page: Page<'a, 'k>,
     used: u64,
     cell: u64,
     stage: Stage,
-    ghost whole: { length bytes.now ≡ 512 },
-    ghost head: { used ≡ head_of bytes.now },
+    ghost head: { used ≡ head_of page.bytes.now },
     ghost within: { cell ≤ used + 1 },
 }

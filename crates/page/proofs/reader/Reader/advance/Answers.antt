@@ -1,26 +1,23 @@
 use Rattle.std.proofs.Common.{Some, Ok, sym, ap, ◌∙◌, arith}
-use Rattle.page.specs.Parts.{object, unused, next_part, after_next}
+use Rattle.std.proofs.lemmas.Result.{err_from_is_err_and}
+use Rattle.page.specs.Parts.{object, next_part, after_next}
 use Rattle.page.specs.Types.{types}
-use Rattle.page.proofs.Turns.{bytes_of, bytes_rest, read_object, read_fault, read_rest}
+use Rattle.page.proofs.Turns.{bytes_of, read_object, read_fault}
 use Rattle.page.proofs.reader.Reader.advance.Goals as goal
 
-pub returns-in-Ok : goal.returns-in-Ok
-returns-in-Ok c =
+pub returns-in_err-next-clause-part : goal.returns-in_err-next-clause-part
+returns-in_err-next-clause-part c =
     let r = c.args.self.now in
-    let e = read_rest (types r.catalogue.now) r.pages r.page r.bytes.now r.used r.stage c.requires (omega arith) r.cell (omega arith) r.within c.in-Ok.ensures in
-    let b = bytes_rest r.bytes.now r.cell in
-    record { part = ap (λ x. Some (Ok (unused r.cell x))) b ∙ sym (ap next_part e); after = sym (ap after_next e) }
+    let p = r.page in
+    let x = err_from_is_err_and c.from_residual-in_err-next.result c.from_residual-in_err-next.ensures.1 in
+    let e = read_fault (types p.catalogue.now) p.pages p.number p.bytes.now r.used r.stage c.requires (omega arith) r.cell c.in_err-next.field-0.0 (omega arith) c.in_err-next.ensures.value in
+    rw (x.1, x.2) (sym (ap next_part e))
 
-pub returns-in-Ok-object_at : goal.returns-in-Ok-object_at
-returns-in-Ok-object_at c =
+pub returns : goal.returns
+returns c =
     let r = c.args.self.now in
-    let told = c.in-Ok-object_at.ensures in
-    let e = read_object (types r.catalogue.now) r.pages r.page r.bytes.now r.used r.stage c.requires (omega arith) r.cell c.in-Ok-object_at.size (omega arith) (omega (arith, told.within)) told.value in
-    let b = bytes_of r.bytes.now r.cell c.in-Ok-object_at.size in
-    record { part = ap (λ x. Some (Ok (object r.cell x))) b ∙ sym (ap next_part e); after = sym (ap after_next e) }
-
-pub returns-in-Err-object_at : goal.returns-in-Err-object_at
-returns-in-Err-object_at c =
-    let r = c.args.self.now in
-    let e = read_fault (types r.catalogue.now) r.pages r.page r.bytes.now r.used r.stage c.requires (omega arith) r.cell c.in-Err-object_at.fault (omega arith) c.in-Err-object_at.ensures.value in
-    record { part = sym (ap next_part e); after = sym (ap after_next e) }
+    let p = r.page in
+    let s = c.in_ok-next.field-0 in
+    let told = c.in_ok-next.ensures in
+    let e = read_object (types p.catalogue.now) p.pages p.number p.bytes.now r.used r.stage c.requires (omega arith) r.cell s (omega arith) (omega (arith, told.within)) told.value in
+    record { part = ap (λ x. Some (Ok (object r.cell x))) (bytes_of p.bytes.now r.cell s) ∙ sym (ap next_part e); after = sym (ap after_next e) }
