@@ -1,5 +1,7 @@
 -- One step of each recursion of the page form. Assumes nothing.
-use Rattle.std.proofs.Common.{◌≡◌, ℕ, suc, ◌+◌, ◌-◌, ◌<◌, Bool, true, false, cond, not, ◌||◌, eqb, List, Option, Ok, Err, refl, arith}
+use Rattle.std.proofs.Common.{◌≡◌, ℕ, zero, suc, ◌+◌, ◌-◌, ◌<◌, ◌≤◌, ◌≢◌, Bool, true, false, cond, not, ◌||◌, eqb, List, Option, Ok, Err, refl, arith, ⊎_elim}
+use Rattle.std.proofs.lemmas.Bool.{cases_lt, eq-eqb}
+use Rattle.std.proofs.lemmas.Bool.Decides.{nat_tests}
 use Rattle.fault.specs.declared.kinds.Cause.{Cause}
 use Rattle.fault.specs.declared.kinds.Cause.TheVariants.{BadLink, NotZero}
 use Rattle.fault.specs.declared.kinds.Fault.{Fault}
@@ -16,8 +18,20 @@ pub else_then : {A : Type 0} (b : Bool) (e : Fault) (r : Checked A) → ((b else
 else_then true e r = refl
 else_then false e r = refl
 
-pub unused_more : (n : ℕ) (bs : List ℕ) (k m : ℕ) → k < m → unused_fault n bs k (m - k) ≡ cond (eqb (cell_at bs k) 0) (unused_fault n bs (k + 1) (m - (k + 1))) (Err (fault NotZero 3 (on_cell n k)))
-unused_more n bs k m h = let e : m - k ≡ suc (m - (k + 1)) = omega arith in rw e (else_then (eqb (cell_at bs k) 0) (fault NotZero 3 (on_cell n k)) (unused_fault n bs (k + 1) (m - (k + 1))))
+-- the m cells from k on are zero, or cell i is the first that is not
+pub unused_none : (n : ℕ) (bs : List ℕ) (k m : ℕ) → ((i : ℕ) → k ≤ i → i < k + m → cell_at bs i ≡ 0) → unused_fault n bs k m ≡ Ok tt
+unused_none n bs k zero zeros = refl
+unused_none n bs k (suc m) zeros = rw (else_then, eq-eqb _ _ (zeros k (omega arith) (omega arith))) (unused_none n bs (k + 1) m (λ i a b. zeros i (omega arith) (omega arith)))
+
+pub unused_some : (n : ℕ) (bs : List ℕ) (k m i : ℕ) → k ≤ i → i < k + m → cell_at bs i ≢ 0 → ((j : ℕ) → k ≤ j → j < i → cell_at bs j ≡ 0) → unused_fault n bs k m ≡ Err (fault NotZero 3 (on_cell n i))
+unused_some n bs k zero i a b ne zeros = absurd (omega arith)
+unused_some n bs k (suc m) i a b ne zeros =
+    ⊎_elim
+    (λ l. rw (else_then, eq-eqb _ _ (zeros k (omega arith) l)) (unused_some n bs (k + 1) m i (omega arith) (omega arith) ne (λ j x y. zeros j (omega arith) y)))
+    (λ l.
+    let e : k ≡ i = omega arith in
+    rw (e, else_then) (grind (arith, nat_tests)))
+    (cases_lt k i)
 
 bad_by : (b : Bool) (l : Option Position) (c : Cause) → Err c ≡ cond b (Ok l) (Err BadLink) → (b ≡ false) × (c ≡ BadLink)
 bad_by true l c e = let z : ◌≡◌ {A = ℕ} 0 1 = cc in absurd (omega arith)

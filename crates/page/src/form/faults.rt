@@ -32,6 +32,7 @@ impl<'a, 'k> Page<'a, 'k> {
         requires { cell + descriptor.size ≤ 63 }
         ensures { result ≡ links_fault self.now.pages self.now.number self.now.bytes.now descriptor cell 0 descriptor.size }
     {
+        // No plainer as a chain: a fault needs the field, its number and the cause at once.
         for field in 0..descriptor.size {
             if descriptor.is_link(field) {
                 if let Err(cause) = to_link(self.cell_at(cell + 1 + field), self.pages) {
@@ -60,15 +61,12 @@ impl<'a, 'k> Page<'a, 'k> {
     }
 
     // The first cell after the used ones that is not zero.
-    #[tactic(auto, using(crate::proofs::Steps::unused_more))]
     pub(crate) fn unused_fault(&self, used: u64) -> Result<(), Fault>
         requires { used ≤ 63 }
         ensures { result ≡ unused_fault self.now.number self.now.bytes.now (used + 1) (63 - used) }
     {
-        for cell in used + 1..64 {
-            if self.cell_at(cell) != 0 {
-                return Err(self.fault(Cause::NotZero, cell));
-            }
+        if let Some(cell) = (used + 1..64).find(|&cell| self.cell_at(cell) != 0) {
+            return Err(self.fault(Cause::NotZero, cell));
         }
         Ok(())
     }
