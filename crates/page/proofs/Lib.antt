@@ -1,3 +1,4 @@
+pub mod Chunks
 pub mod Declares
 pub mod Rounds
 pub mod Steps

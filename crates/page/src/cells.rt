@@ -6,27 +6,17 @@ pub(crate) fn cell_at(bytes: &[u8], i: u64) -> u64
     requires { 8 * i + 8 ≤ length bytes.now }
     ensures { result ≡ cell_at bytes.now i }
 {
-    let a = 8 * i as usize;
-    u64::from_le_bytes([
-        bytes[a],
-        bytes[a + 1],
-        bytes[a + 2],
-        bytes[a + 3],
-        bytes[a + 4],
-        bytes[a + 5],
-        bytes[a + 6],
-        bytes[a + 7],
-    ])
+    let (cells, _) = bytes.as_chunks();
+    u64::from_le_bytes(cells[i as usize])
 }
 
 // The number in cell `i`, if the bytes have all of it.
 pub fn cell(bytes: &[u8], i: u64) -> Option<u64>
     ensures { result ≡ cell_in bytes.now i }
 {
-    if i >= bytes.len() as u64 / 8 {
-        return None;
-    }
-    Some(cell_at(bytes, i))
+    let (cells, _) = bytes.as_chunks();
+    let cell = cells.get(i as usize)?;
+    Some(u64::from_le_bytes(*cell))
 }
 
 fn put_at(bytes: &mut [u8], i: u64, number: u64)
