@@ -6,7 +6,8 @@ mod states;
 
 use crate::descriptor::Descriptor;
 
-// The first `count` descriptors are declared.
+// The first `count` descriptors are declared. An array with its count: a catalogue is copied and has no heap, and no vector
+// is `Copy`.
 #[derive(Clone, Copy)]
 struct Table {
     count: u64,

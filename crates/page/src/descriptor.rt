@@ -3,7 +3,7 @@ ghost use Rattle.std.specs.Prelude.{◌≡◌};
 ghost use Rattle.page.specs.Descriptors.{linked};
 
 // A type of object: its number of fields, and a mask whose bit f says that field f is a link.
-#[derive(Clone, Copy)]
+#[derive(Clone, Copy, Debug, PartialEq, Eq)]
 pub struct Descriptor {
     pub size: u64,
     pub mask: u64,

@@ -16,6 +16,7 @@ const STUDIO: [Descriptor; 5] = [
 ];
 
 // Declares the types one after another; a refused one is passed over.
+#[tactic(auto, using(crate::proofs::Declares::declare_more, std::proofs::lemmas::List::take_all))]
 fn declare_all(catalogue: &mut DeclaringCatalogue, table: &[Descriptor])
     ensures { types_so_far catalogue.new ≡ declare_all (types_so_far catalogue.old) table.now }
 {

@@ -21,7 +21,15 @@ impl Table {
         }
     }
 
+    // The declared types, in their order.
+    fn types(&self) -> &[Descriptor]
+        ensures { result.now ≡ listed self.now }
+    {
+        &self.descriptors[..self.count as usize]
+    }
+
     // The table with one type more.
+    #[tactic(auto, using(crate::proofs::Declares::all_more))]
     fn with(mut self, descriptor: Descriptor) -> Table
         requires count_bound { self.count < 32 }
         requires good { Good descriptor }
@@ -52,7 +60,7 @@ impl DeclaringCatalogue {
         if count >= MOST {
             return Err(Fault::new(Cause::CatalogueFull, LAYER, Place::nowhere()));
         }
-        if size < 1 || size > 62 {
+        if !(1..=62).contains(&size) {
             return Err(Fault::new(Cause::FieldCount, LAYER, Place::nowhere()));
         }
         if mask >> size != 0 {
@@ -77,9 +85,7 @@ impl ClosedCatalogue {
         ensures value { result ≡ found (types self.now) number }
         ensures good { IfSome result Good }
     {
-        if number == 0 || number > self.table.count {
-            return None;
-        }
-        Some(self.table.descriptors[(number - 1) as usize])
+        let index = number.checked_sub(1)?;
+        self.table.types().get(index as usize).copied()
     }
 }
