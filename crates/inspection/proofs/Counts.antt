@@ -1,20 +1,25 @@
 -- Counting over the parts of a page. Assumes nothing.
-use Rattle.std.proofs.Common.{◌≡◌, ℕ, zero, suc, ◌+◌, ◌-◌, ◌*◌, ◌/◌, ◌<◌, ◌≤◌, Bool, true, false, cond, ◌&&◌, eqb, ltb, leb, List, [], ◌∷◌, length, drop, IfOk, Some, None, Ok, Err, Option, sym, refl, ap, ◌∙◌, subst, arith, length-drop}
+use Rattle.std.proofs.Common.{◌≡◌, ℕ, zero, suc, ◌+◌, ◌-◌, ◌*◌, ◌/◌, ◌≤◌, Bool, true, false, cond, ◌&&◌, eqb, ltb, leb, List, [], ◌∷◌, length, drop, IfOk, IfSome, Some, None, Ok, Err, Option, sym, refl, ap, ◌∙◌, subst, arith, length-drop}
+use Rattle.std.specs.List.{range_with_len}
+use Rattle.std.proofs.lemmas.List.FromFn.{length-range_with_len}
+use Rattle.std.proofs.lemmas.List.Sums.{count_by-le-length}
 use Rattle.std.proofs.lemmas.Bool.{eqb-true, leb-true}
 use Rattle.fault.specs.declared.kinds.Fault.{Fault}
 use Rattle.fault.specs.declared.kinds.Cause.TheVariants.{HeadTooLarge, WrongLength}
 use Rattle.fault.specs.Faults.{nowhere, on_cell, fault}
 use Rattle.fault.specs.Refusals.{Checked, ◌>>=◌, ◌>>◌, ◌else◌}
-use Rattle.page.specs.Descriptors.{linked}
+use Rattle.page.specs.Descriptors.{Good, linked}
 use Rattle.page.specs.Form.{head_of, object_at, unused_fault, examined}
 use Rattle.page.specs.Parts.{Part, Remaining, only, last_part, object_part, parts_from, parts_of, reader_of, first_of, later_of, Faithful}
 use Rattle.page.specs.declared.descriptor.Descriptor.{Descriptor}
 use Rattle.page.proofs.Whole.{faithful, few_parts}
-use Rattle.inspection.specs.Surveys.{field_of, links_from, counted, tally, empty, unless, surveyed, verdict}
+use Rattle.inspection.specs.Surveys.{counted, tally, empty, unless, surveyed, verdict, field_of, links_by_type}
 use Rattle.inspection.specs.declared.survey.Survey.{Survey}
 
-pub links_more : (d : Descriptor) (bs : List ℕ) (f m : ℕ) → f < m → links_from d bs f (m - f) ≡ cond (linked d f && ltb 0 (field_of bs f)) 1 0 + links_from d bs (f + 1) (m - (f + 1))
-links_more d bs f m h = let e : m - f ≡ suc (m - (f + 1)) = omega arith in rw e
+pub few_links : (o : Option Descriptor) (bs : List ℕ) → IfSome o Good → links_by_type o bs ≤ 62
+few_links None bs good = omega arith
+few_links (Some d) bs good =
+    omega (arith, good, count_by-le-length (λ f. linked d f && ltb 0 (field_of bs f)) (range_with_len 0 d.size), length-range_with_len 0 d.size)
 
 -- what a part that comes does to the counts
 pub one_more : (ts : List Descriptor) (s : Survey) (xs : List Part) (o : Option Fault) (x : Part) → Some (Ok x) ≡ first_of xs o → (tally ts s xs ≡ tally ts (counted ts s x) (later_of xs)) × (length (later_of xs) + 1 ≡ length xs)

@@ -1,5 +1,6 @@
 -- What an inspection counts on a page. Assumes nothing.
-use Rattle.std.specs.Prelude.{ℕ, zero, suc, ◌+◌, ◌/◌, cond, ◌&&◌, List, [], ◌∷◌, length, Some, None, Ok, Err, Option, nat_lt}
+use Rattle.std.specs.Prelude.{ℕ, ◌+◌, ◌/◌, ◌&&◌, List, [], ◌∷◌, length, Some, None, Ok, Err, Option, nat_lt}
+use Rattle.std.specs.List.{count_by, range_with_len}
 use Rattle.std.specs.Option.{unwrap_or}
 use Rattle.fault.specs.declared.kinds.Fault.{Fault}
 use Rattle.fault.specs.Refusals.{Checked, ◌>>=◌}
@@ -17,14 +18,13 @@ object_type ts bs = found ts (unwrap_or (cell_in bs 0) 0)
 abbrev pub field_of : List ℕ → ℕ → ℕ
 field_of bs f = unwrap_or (cell_in bs (1 + f)) 0
 
--- how many of the m fields from f on are links and present
-abbrev pub links_from : Descriptor → List ℕ → ℕ → ℕ → ℕ
-links_from d bs f zero = 0
-links_from d bs f (suc m) = cond (linked d f && nat_lt 0 (field_of bs f)) 1 0 + links_from d bs (f + 1) m
+-- how many of the fields are links and present
+abbrev pub present_fields : Descriptor → List ℕ → ℕ
+present_fields d bs = count_by (λ f. linked d f && nat_lt 0 (field_of bs f)) (range_with_len 0 d.size)
 
 abbrev pub links_by_type : Option Descriptor → List ℕ → ℕ
 links_by_type None bs = 0
-links_by_type (Some d) bs = links_from d bs 0 d.size
+links_by_type (Some d) bs = present_fields d bs
 
 -- how many present links the object with the bytes bs has
 abbrev pub present_links : List Descriptor → List ℕ → ℕ

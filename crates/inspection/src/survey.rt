@@ -3,12 +3,12 @@ ghost use Rattle.std.specs.Prelude.{◌≡◌, ◌+◌, ◌-◌, ◌^◌, ◌<�
 ghost use Rattle.page.specs.Descriptors.{Good, linked};
 ghost use Rattle.page.specs.Form.{head_of, examined};
 ghost use Rattle.page.specs.Types.{types, part_of};
-ghost use Rattle.inspection.specs.Surveys.{object_type, field_of, present_links, counted, surveyed, verdict};
+ghost use Rattle.inspection.specs.Surveys.{object_type, field_of, present_fields, present_links, counted, surveyed, verdict};
 
 use fault::Fault;
 use page::{ClosedCatalogue, Descriptor, Part, Reader, cell};
 
-#[derive(Clone, Copy)]
+#[derive(Clone, Copy, Debug, Default, PartialEq, Eq)]
 pub struct Survey {
     pub objects: u64,
     // links that are present
@@ -31,21 +31,21 @@ fn is_present(bytes: &[u8], descriptor: Descriptor, field: u64) -> bool
     descriptor.is_link(field) && cell(bytes, 1 + field).unwrap_or(0) > 0
 }
 
+// How many fields are links that are present.
+fn count_present(bytes: &[u8], descriptor: Descriptor) -> u64
+    requires { descriptor.size ≤ 62 }
+    ensures { result ≡ present_fields descriptor bytes.now }
+{
+    let present = (0..descriptor.size).filter(|field| is_present(bytes, descriptor, *field));
+    present.count() as u64
+}
+
 // How many present links the object with these bytes has.
 pub fn links_in(bytes: &[u8], catalogue: &ClosedCatalogue) -> u64
     ensures value { result ≡ present_links (types catalogue.now) bytes.now }
     ensures few { result ≤ 62 }
 {
-    let Some(descriptor) = object_type(bytes, catalogue) else {
-        return 0;
-    };
-    let mut links = 0;
-    for field in 0..descriptor.size {
-        if is_present(bytes, descriptor, field) {
-            links += 1;
-        }
-    }
-    links
+    object_type(bytes, catalogue).map_or(0, |descriptor| count_present(bytes, descriptor))
 }
 
 impl Survey {
@@ -61,17 +61,17 @@ impl Survey {
             Part::Object { bytes, .. } => Survey {
                 objects: self.objects + 1,
                 links: self.links + links_in(bytes, catalogue),
-                free: self.free,
+                ..self
             },
             Part::Unused { bytes, .. } => Survey {
-                objects: self.objects,
-                links: self.links,
                 free: bytes.len() as u64 / 8,
+                ..self
             },
         }
     }
 }
 
+// Apart from `survey_page`, since what that says besides follows from these counts.
 fn count_parts(
     bytes: &[u8],
     page: u64,
@@ -81,11 +81,7 @@ fn count_parts(
     ensures { result ≡ surveyed (types catalogue.now) pages page bytes.now }
 {
     let mut reader = Reader::new(bytes, page, pages, catalogue)?;
-    let mut survey = Survey {
-        objects: 0,
-        links: 0,
-        free: 0,
-    };
+    let mut survey = Survey::default();
     while let Some(part) = reader.step() {
         survey = survey.with(part?, catalogue);
     }

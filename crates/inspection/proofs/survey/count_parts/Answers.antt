@@ -1,9 +1,10 @@
-use Rattle.std.proofs.Common.{length, Some, sym, ap, ◌∙◌, arith}
+use Rattle.std.proofs.Common.{◌≡◌, rules, length, Some, sym, ap, ◌∙◌, arith}
 use Rattle.std.proofs.lemmas.Result.{err_from_is_err_and}
 use Rattle.fault.specs.Refusals.{Checked, ◌>>=◌}
 use Rattle.page.specs.Parts.{Remaining, after_next}
 use Rattle.page.specs.Types.{types, remaining, part_of, seen_part}
 use Rattle.inspection.specs.Surveys.{empty, tally, unless}
+use Rattle.inspection.specs.declared.survey.Survey.{Survey}
 use Rattle.inspection.proofs.Counts.{one_more, at_fault, at_end, few_left}
 use Rattle.inspection.proofs.survey.count_parts.Goals as goal
 
@@ -13,7 +14,8 @@ loop-part-init c =
     let l = remaining c.in_ok-reader.reader in
     let e = c.in_ok-reader.ensures.parts in
     let few = few_left ts c.args.pages c.args.page c.args.bytes.now l e in
-    (sym (ap (λ (r : Checked Remaining). r >>= (λ l. unless l.fault (tally ts empty l.parts))) e), omega (arith, few), omega (arith, few))
+    let d : c.default-survey.result ≡ empty = search rules in
+    (sym (ap (λ (r : Checked Remaining). r >>= (λ l. unless l.fault (tally ts empty l.parts))) e) ∙ ap (λ s. unless l.fault (tally ts s l.parts)) (sym d), omega (arith, few, ap (λ (s : Survey). s.objects) d), omega (arith, few, ap (λ (s : Survey). s.links) d))
 
 pub returns-in_err-part : goal.returns-in_err-part
 returns-in_err-part c =
