@@ -1,9 +1,9 @@
 -- The pages of a row of bytes. Assumes nothing.
-use Rattle.std.proofs.Common.{◌≡◌, ℕ, zero, suc, ◌+◌, ◌-◌, ◌*◌, ◌/◌, ◌<◌, ◌≤◌, min, Bool, true, false, leb, List, length, get_or, take, drop, set, sym, refl, ap, ◌∙◌, ⊎_elim, arith, length-append, length-drop, length-set, length-take}
+use Rattle.std.proofs.Common.{◌≡◌, ℕ, zero, suc, ◌+◌, ◌-◌, ◌*◌, ◌/◌, ◌<◌, ◌≤◌, min, Bool, true, false, List, length, get_or, take, drop, set, sym, refl, ap, ◌∙◌, ⊎_elim, arith, length-append, length-drop, length-set, length-take}
 use borrow.Rule.Slice.PartMut.{put_mid}
 use Rattle.std.proofs.lemmas.List.{drop-drop, same_lists, get_or-set_same, get_or-set_other}
 use Rattle.std.proofs.lemmas.Slice.{between_is, take-put_mid_below, drop-put_mid, between-put_mid}
-use Rattle.std.proofs.lemmas.Bool.{lt-ltb, cases_lt, cases_eq, cases_Bool, true≢false}
+use Rattle.std.proofs.lemmas.Bool.{cases_lt, cases_eq, cases_Bool, true≢false}
 use Rattle.store.specs.Pages.{bytes, Page, no_page, page_at, is_page, page_count, cut, paged, past}
 use Rattle.store.specs.Rules.{open_at, written}
 use Rattle.store.specs.Laws.{length_cut}
@@ -71,9 +71,6 @@ set_cut w k bs ys i h hk hy =
     (cases_eq i j))
 
 module _ (w : Bool) (bs : List ℕ) where
-  pub page_upto : (n : ℕ) → 0 < n → is_page (paged w bs) n ≡ leb n (page_count bs)
-  page_upto n z = simp (lt-ltb 0 n z, length_cut)
-
   pub paged_bounds : (n : ℕ) → is_page (paged w bs) n ≡ true → (0 < n) × (n ≤ page_count bs)
   paged_bounds n h = let b = page_bounds (paged w bs) n h in (b.0, (rw length_cut at b.1))
 

@@ -1,10 +1,10 @@
 -- What the rules of reading and writing say, case by case. Assumes nothing.
 use Rattle.std.proofs.Common.{◌≡◌, ℕ, zero, suc, ◌-◌, ◌*◌, ◌<◌, ◌≤◌, Bool, true, false, cond, ◌&&◌, eqb, ltb, leb, ◌⊎◌, List, length, get_or, Ok, Err, sym, refl, ap, ◌∙◌, inl, inr, ⊎_elim, arith}
 use Rattle.std.proofs.lemmas.List.{get_or_past}
-use Rattle.std.proofs.lemmas.Bool.{eq-eqb, ne_eqb, eqb-true, lt-ltb, le-ltb, le-leb, lt-leb, ltb-true, leb-true, and_parts, cases_Bool, cases_eq, cases_lt, true≢false}
-use Rattle.fault.specs.declared.kinds.Cause.TheVariants.{NoPage, PageClosed, WrongLength}
+use Rattle.std.proofs.lemmas.Bool.{eq-eqb, ne_eqb, eqb-true, lt-ltb, le-leb, ltb-true, leb-true, and_parts, cases_Bool, cases_eq, cases_lt, true≢false}
+use Rattle.fault.specs.declared.kinds.Cause.TheVariants.{PageClosed}
 use Rattle.fault.specs.declared.kinds.Fault.{Fault}
-use Rattle.fault.specs.Faults.{nowhere, on_page, fault}
+use Rattle.fault.specs.Faults.{on_page, fault}
 use Rattle.fault.specs.Refusals.{Checked, ◌>>◌, ◌else◌}
 use Rattle.store.specs.Pages.{Page, no_page, page_at, is_page}
 use Rattle.store.specs.Rules.{readable, read_answer, held_by, read_buffer, open_at, write_answer, written, write_pages, start_answer}
@@ -18,12 +18,6 @@ pub page_bounds : (ps : List Page) (n : ℕ) → is_page ps n ≡ true → (0 < 
 page_bounds ps n h =
     let e = and_parts (ltb 0 n) (leb n (length ps)) h in
     (ltb-true 0 n e.0, leb-true n (length ps) e.1)
-
-pub no_page_0 : (ps : List Page) (n : ℕ) → n ≡ 0 → is_page ps n ≡ false
-no_page_0 ps n e = let z : n ≤ 0 = omega arith in simp (le-ltb 0 n z)
-
-pub no_page_above : (ps : List Page) (n : ℕ) → length ps < n → is_page ps n ≡ false
-no_page_above ps n h = let z : 0 < n = omega arith in simp (lt-ltb 0 n z, lt-leb n (length ps) h)
 
 -- what stands where no page is
 pub page_outside : (ps : List Page) (n : ℕ) → is_page ps n ≡ false → page_at ps n ≡ no_page
@@ -48,20 +42,8 @@ page_at_lem ps zero h = absurd (true≢false (sym h))
 page_at_lem ps (suc i) h = let e : i ≡ suc i - 1 = omega arith in ap (λ k. get_or ps k no_page) e
 
 module _ (layer : ℕ) (ps : List Page) (n : ℕ) where
-  pub read_short : (len : ℕ) → (len ≡ 512 → ⊥) → read_answer layer ps n len ≡ Err (fault WrongLength layer nowhere)
-  read_short len h = simp (ne_eqb len 512 h)
-
-  pub read_outside : (len : ℕ) → len ≡ 512 → is_page ps n ≡ false → read_answer layer ps n len ≡ Err (fault NoPage layer (on_page n))
-  read_outside len h o = simp (eq-eqb len 512 h, o)
-
   pub read_inside : (len : ℕ) → len ≡ 512 → is_page ps n ≡ true → read_answer layer ps n len ≡ readable (page_at ps n).content n
   read_inside len h o = simp (eq-eqb len 512 h, o)
-
-  pub write_short : (len : ℕ) → (len ≡ 512 → ⊥) → write_answer layer ps n len ≡ Err (fault WrongLength layer nowhere)
-  write_short len h = simp (ne_eqb len 512 h)
-
-  pub write_outside : (len : ℕ) → len ≡ 512 → is_page ps n ≡ false → write_answer layer ps n len ≡ Err (fault NoPage layer (on_page n))
-  write_outside len h o = simp (eq-eqb len 512 h, o)
 
   pub write_inside : (len : ℕ) → len ≡ 512 → is_page ps n ≡ true → write_answer layer ps n len ≡ (open_at ps n else fault PageClosed layer (on_page n))
   write_inside len h o = simp (eq-eqb len 512 h, o)

@@ -3,7 +3,7 @@ ghost use Rattle.store.specs.Pages.{paged, past, shared};
 ghost use Rattle.store.specs.Laws.{paged_lawful};
 
 use crate::Store;
-use crate::row::{pages_in, read_at, start_of};
+use crate::row::Row;
 use fault::{Cause, Fault, Place};
 
 // A store over bytes that stay as they are. Every page can be read and none written.
@@ -17,6 +17,16 @@ impl<'a> Frozen<'a> {
         ensures { result.bytes ≡ bytes.entry }
     {
         Frozen { bytes }
+    }
+
+    fn row(&self) -> Row<'a>
+        ensures bytes { result.bytes ≡ self.now.bytes }
+        ensures layer { result.layer ≡ 6 }
+    {
+        Row {
+            bytes: self.bytes,
+            layer: Self::LAYER,
+        }
     }
 }
 
@@ -38,19 +48,20 @@ impl<'a> Store for Frozen<'a> {
     }
 
     fn count(&mut self) -> u64 {
-        pages_in(self.bytes)
+        self.row().count()
     }
 
+    #[tactic(auto, using(crate::proofs::Cuts::open_frozen))]
     fn is_open(&mut self, _n: u64) -> bool {
         false
     }
 
     fn read(&mut self, n: u64, buf: &mut [u8]) -> Result<(), Fault> {
-        read_at(self.bytes, Self::LAYER, n, buf)
+        self.row().read(n, buf)
     }
 
     fn write(&mut self, n: u64, buf: &[u8]) -> Result<(), Fault> {
-        start_of(self.bytes, Self::LAYER, n, buf.len())?;
+        self.row().start_of(n, buf.len())?;
         Err(Fault::new(Cause::PageClosed, Self::LAYER, Place::on_page(n)))
     }
 }

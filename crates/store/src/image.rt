@@ -2,7 +2,7 @@ ghost use Rattle.std.specs.Prelude.{◌≡◌, true};
 ghost use Rattle.store.specs.Pages.{paged, past, loan};
 ghost use Rattle.store.specs.Laws.{paged_lawful};
 
-use crate::row::{has_page, pages_in, read_at, start_of};
+use crate::row::Row;
 use crate::{PAGE_BYTES, Store};
 use fault::Fault;
 
@@ -25,6 +25,16 @@ impl<'a> Image<'a> {
     {
         &self.bytes[..]
     }
+
+    fn row(&self) -> Row<'_>
+        ensures bytes { result.bytes.now ≡ self.now.bytes.now }
+        ensures layer { result.layer ≡ 5 }
+    {
+        Row {
+            bytes: self.bytes(),
+            layer: Self::LAYER,
+        }
+    }
 }
 
 impl<'a> Store for Image<'a> {
@@ -45,19 +55,20 @@ impl<'a> Store for Image<'a> {
     }
 
     fn count(&mut self) -> u64 {
-        pages_in(self.bytes())
+        self.row().count()
     }
 
+    #[tactic(auto, using(crate::proofs::Cuts::open_image))]
     fn is_open(&mut self, n: u64) -> bool {
-        has_page(self.bytes(), n)
+        self.row().has_page(n)
     }
 
     fn read(&mut self, n: u64, buf: &mut [u8]) -> Result<(), Fault> {
-        read_at(self.bytes(), Self::LAYER, n, buf)
+        self.row().read(n, buf)
     }
 
     fn write(&mut self, n: u64, buf: &[u8]) -> Result<(), Fault> {
-        let start = start_of(self.bytes(), Self::LAYER, n, buf.len())?;
+        let start = self.row().start_of(n, buf.len())?;
         self.bytes[start..start + PAGE_BYTES].copy_from_slice(buf);
         Ok(())
     }

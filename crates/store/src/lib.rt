@@ -25,7 +25,8 @@ pub trait Store {
     // The layer that faults of this kind of store name.
     const LAYER: u32;
 
-    // The number that LAYER is.
+    // The number that LAYER is, and layer_number answers: in an impl with a lifetime, as Image's, the constant can't
+    // have a ghost twin.
     ghost layer: { ℕ };
 
     // What the store holds.
