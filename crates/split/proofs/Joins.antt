@@ -9,7 +9,7 @@ use Rattle.fault.specs.Faults.{on_page, fault}
 use Rattle.fault.specs.Refusals.{Checked, ◌>>◌, ◌else◌, ◌otherwise◌}
 use Rattle.store.specs.Pages.{Content, bytes, marked, Page, no_page, page_at, is_page}
 use Rattle.store.specs.Rules.{readable, held_by, read_answer, read_buffer, open_at, write_answer, written, write_pages, start_answer}
-use Rattle.store.proofs.Steps.{is_page_lem, page_bounds, open_outside, read_inside, write_inside, read_refused, held_refused, write_refused, kept_refused}
+use Rattle.store.proofs.Steps.{is_page_lem, page_bounds, read_inside, write_inside, read_refused, held_refused, write_refused, kept_refused}
 use Rattle.split.specs.Joined.{joined}
 use Rattle.split.specs.Sides.{side_at, side_of, side_answer, of_side, in_side, told_of, closed_at}
 use Rattle.split.specs.declared.Side.{Side}
@@ -129,9 +129,6 @@ told_readable (marked cause layer) m n = refl
 pub same_joined : (ps' ps qs' qs : List Page) → ps' ≡ ps → qs' ≡ qs → joined ps' qs' ≡ joined ps qs
 same_joined ps' ps qs' qs e f = ap (λ x. joined x qs') e ∙ ap (joined ps) f
 
-pub same_again : (ps'' ps' ps qs'' qs' qs : List Page) → ps'' ≡ ps' → ps' ≡ ps → qs'' ≡ qs' → qs' ≡ qs → joined ps'' qs'' ≡ joined ps qs
-same_again ps'' ps' ps qs'' qs' qs e e' f f' = same_joined ps'' ps qs'' qs (e ∙ e') (f ∙ f')
-
 same_side : (s : Side) (ps' ps qs' qs : List Page) → ps' ≡ ps → qs' ≡ qs → of_side s ps' qs' ≡ of_side s ps qs
 same_side (First m) ps' ps qs' qs e f = e
 same_side (Second m) ps' ps qs' qs e f = f
@@ -192,9 +189,6 @@ module _ (ps qs : List Page) (n : ℕ) (s : Side) (h : side_of ps qs n ≡ Some 
       kept_side ps qs s bs
       ∙ ap (λ w. cond (eqb (length bs) 512 && open_at (of_side s ps qs) (in_side s)) w (joined ps qs)) (lies_on.changed bs)
       ∙ ap (λ b. cond (eqb (length bs) 512 && b) (written (joined ps qs) n bs) (joined ps qs)) open_on
-
-pub outside_by : (ps qs : List Page) (n : ℕ) → None ≡ side_of ps qs n → false ≡ open_at (joined ps qs) n
-outside_by ps qs n h = sym (open_outside (joined ps qs) n (side_missing ps qs n (sym h)))
 
 -- what is refused
 module _ (ps qs : List Page) (n : ℕ) (e : Fault) where

@@ -1,16 +1,16 @@
 // Two stores as one: the pages of the second after those of the first, 1,024 at most.
 #![tactic(auto)]
 
-ghost use Rattle.std.specs.Prelude.{◌≡◌, ◌+◌, min, length};
+ghost use Rattle.std.specs.Prelude.{◌≡◌, length};
 ghost use Rattle.store.specs.Pages.{both};
 ghost use Rattle.store.specs.Rules.{open_at, read_answer, read_buffer, write_answer, write_pages};
 ghost use Rattle.split.specs.Joined.{joined, joined_lawful};
-ghost use Rattle.split.specs.Sides.{side_of, side_answer, of_side, in_side, told_of, closed_at, Still};
+ghost use Rattle.split.specs.Sides.{side_of, side_answer, of_side, in_side, Still};
 
 use fault::{Cause, Fault, Place};
 use store::{MOST_PAGES, PAGE_BYTES, Store};
 
-// The layer of its own refusals.
+// The layer of its own refusals. A proof of a generic impl can't read LAYER.
 const SPLIT: u32 = 7;
 
 #[derive(Drop)]
@@ -20,37 +20,10 @@ pub struct Split<A: Store, B: Store> {
 }
 
 // The part that holds a page, with the page's number there.
-#[derive(Clone, Copy)]
+#[derive(Clone, Copy, Debug, PartialEq, Eq)]
 enum Side {
     First(u64),
     Second(u64),
-}
-
-// How many pages two stores have together.
-fn together(first: u64, second: u64) -> u64
-    ensures { result ≡ min 1024 (first + second) }
-{
-    first.saturating_add(second).min(MOST_PAGES)
-}
-
-// A part's answer to a read, told of page n.
-fn told_of(n: u64, answer: Result<(), Fault>) -> Result<(), Fault>
-    ensures { result ≡ told_of n answer }
-{
-    match answer {
-        Ok(()) => Ok(()),
-        Err(fault) => Err(fault.on_page(n)),
-    }
-}
-
-// A part's answer to a write, told of page n: a part that has the page refuses only where it is closed.
-fn closed_at(n: u64, answer: Result<(), Fault>) -> Result<(), Fault>
-    ensures { result ≡ closed_at n answer }
-{
-    match answer {
-        Ok(()) => Ok(()),
-        Err(_) => Err(Fault::new(Cause::PageClosed, SPLIT, Place::on_page(n))),
-    }
 }
 
 impl<A: Store, B: Store> Split<A, B> {
@@ -76,6 +49,7 @@ impl<A: Store, B: Store> Split<A, B> {
     }
 
     // How many pages the first part has, and how many there are in all.
+    #[tactic(auto, using(crate::proofs::Joins::length_joined))]
     fn counts(&mut self) -> (u64, u64)
         ensures first { result.0 ≡ length (A.Store.pages self.old.first) }
         ensures all { result.1 ≡ length (joined (A.Store.pages self.old.first) (B.Store.pages self.old.second)) }
@@ -83,7 +57,7 @@ impl<A: Store, B: Store> Split<A, B> {
     {
         let first = self.first.count();
         let second = self.second.count();
-        (first, together(first, second))
+        (first, first.saturating_add(second).min(MOST_PAGES))
     }
 
     // The side of page n, if there is such a page.
@@ -92,14 +66,14 @@ impl<A: Store, B: Store> Split<A, B> {
         ensures still { Still A.Store.pages B.Store.pages A.Store.kept B.Store.kept self.old self.new }
     {
         let (first, all) = self.counts();
-        if n == 0 || n > all {
+        if !(1..=all).contains(&n) {
             return None;
         }
-        if n <= first {
-            Some(Side::First(n))
+        Some(if n <= first {
+            Side::First(n)
         } else {
-            Some(Side::Second(n - first))
-        }
+            Side::Second(n - first)
+        })
     }
 
     // The side of page n, for a buffer of len bytes.
@@ -110,13 +84,12 @@ impl<A: Store, B: Store> Split<A, B> {
         if len != PAGE_BYTES {
             return Err(Fault::new(Cause::WrongLength, SPLIT, Place::nowhere()));
         }
-        match self.side(n) {
-            Some(side) => Ok(side),
-            None => Err(Fault::new(Cause::NoPage, SPLIT, Place::on_page(n))),
-        }
+        self.side(n)
+            .ok_or(Fault::new(Cause::NoPage, SPLIT, Place::on_page(n)))
     }
 
-    // Whether the page of a side may be written.
+    // Whether the page of a side may be written. The parts are of two types, which no closure can take in turn, so this
+    // call and the two below choose the part each for itself.
     fn opens(&mut self, side: Side) -> bool
         ensures value { result ≡ open_at (of_side side (A.Store.pages self.old.first) (B.Store.pages self.old.second)) (in_side side) }
         ensures still { Still A.Store.pages B.Store.pages A.Store.kept B.Store.kept self.old self.new }
@@ -172,6 +145,7 @@ impl<A: Store, B: Store> Store for Split<A, B> {
     }
 
     fn is_open(&mut self, n: u64) -> bool {
+        // not is_some_and: that does not say that the parts stay where there is no side
         match self.side(n) {
             Some(side) => self.opens(side),
             None => false,
@@ -180,11 +154,14 @@ impl<A: Store, B: Store> Store for Split<A, B> {
 
     fn read(&mut self, n: u64, buf: &mut [u8]) -> Result<(), Fault> {
         let side = self.find(n, buf.len())?;
-        told_of(n, self.read_side(side, buf))
+        // a part's answer is told of page n
+        self.read_side(side, buf).map_err(|fault| fault.on_page(n))
     }
 
     fn write(&mut self, n: u64, buf: &[u8]) -> Result<(), Fault> {
         let side = self.find(n, buf.len())?;
-        closed_at(n, self.write_side(side, buf))
+        // a part that has the page refuses only where it is closed
+        let closed = Fault::new(Cause::PageClosed, SPLIT, Place::on_page(n));
+        self.write_side(side, buf).map_err(|_| closed)
     }
 }

@@ -1,45 +1,25 @@
-use Rattle.std.proofs.Common.{ℕ, List, length, Err, ap, ◌∙◌, rules}
-use Rattle.std.proofs.lemmas.Result.{err_from_is_err_and}
-use Rattle.split.specs.Sides.{of_side}
-use Rattle.split.proofs.Joins.{same_joined, same_again, read_amiss, held_amiss, read_by, held_by_lem}
+use Rattle.std.proofs.Common.{◌≡◌, length, rules}
+use Rattle.split.specs.Sides.{of_side, told_of}
+use Rattle.split.proofs.Joins.{read_amiss, held_amiss, read_by, held_by_lem}
 use Rattle.split.proofs.SplitStore.read.Goals as goal
 
-pub returns-in_err-side : goal.returns-in_err-side
-returns-in_err-side g c =
-    let p = err_from_is_err_and c.from_residual.result c.from_residual.ensures.1 in
-    let ps = g.A.Store.pages c.args.self.now.first in
-    let qs = g.B.Store.pages c.args.self.now.second in
-    let ps' = g.A.Store.pages c.find.new.self.first in
-    let qs' = g.B.Store.pages c.find.new.self.second in
-    let n : ℕ = c.args.n in
-    let old : List ℕ = c.args.buf.now in
-    let e = c.in_err-side.field-0.0 in
-    let h = c.in_err-side.ensures in
-    record {
-      value = p.1 ∙ ap Err p.2 ∙ read_amiss ps qs n e (length old) h.value;
-      buffer = held_amiss ps qs n e old h.value;
-      same = same_joined ps' ps qs' qs h.still.first h.still.second;
-      kept = search rules;
-    }
+pub returns-in_err-side-clause-value : goal.returns-in_err-side-clause-value
+returns-in_err-side-clause-value g c =
+    let e = read_amiss (g.A.Store.pages c.args.self.now.first) (g.B.Store.pages c.args.self.now.second) c.args.n c.in_err-side.field-0.0 (length c.args.buf.now) c.in_err-side.ensures.value in
+    search rules
 
-pub returns : goal.returns
-returns g c =
-    let ps = g.A.Store.pages c.args.self.now.first in
-    let qs = g.B.Store.pages c.args.self.now.second in
-    let ps' = g.A.Store.pages c.find.new.self.first in
-    let qs' = g.B.Store.pages c.find.new.self.second in
-    let ps'' = g.A.Store.pages c.read_side.new.self.first in
-    let qs'' = g.B.Store.pages c.read_side.new.self.second in
-    let n : ℕ = c.args.n in
-    let old : List ℕ = c.args.buf.now in
+pub returns-in_err-side-clause-buffer : goal.returns-in_err-side-clause-buffer
+returns-in_err-side-clause-buffer g c =
+    held_amiss (g.A.Store.pages c.args.self.now.first) (g.B.Store.pages c.args.self.now.second) c.args.n c.in_err-side.field-0.0 c.args.buf.now c.in_err-side.ensures.value
+
+pub returns-clause-value : goal.returns-clause-value
+returns-clause-value g c =
     let s = c.in_ok-side.side in
-    let layer : ℕ = of_side s g.A.Store.layer g.B.Store.layer in
     let h = c.in_ok-side.ensures in
-    let was = h.still in
-    let is = c.read_side.ensures.still in
-    record {
-      value = read_by ps' ps qs' qs was.first was.second n s layer (length old) c.read_side.result c.told_of.result h.value c.read_side.ensures.value c.told_of.ensures;
-      buffer = held_by_lem ps' ps qs' qs was.first was.second n s old _ h.value c.read_side.ensures.buffer;
-      same = same_again ps'' ps' ps qs'' qs' qs is.first was.first is.second was.second;
-      kept = search rules;
-    }
+    let told : c.map_err.result ≡ told_of c.args.n c.read_side.result = search rules in
+    read_by _ (g.A.Store.pages c.args.self.now.first) _ (g.B.Store.pages c.args.self.now.second) h.still.first h.still.second c.args.n s (of_side s g.A.Store.layer g.B.Store.layer) (length c.args.buf.now) c.read_side.result c.map_err.result h.value c.read_side.ensures.value told
+
+pub returns-clause-buffer : goal.returns-clause-buffer
+returns-clause-buffer g c =
+    let h = c.in_ok-side.ensures in
+    held_by_lem _ (g.A.Store.pages c.args.self.now.first) _ (g.B.Store.pages c.args.self.now.second) h.still.first h.still.second c.args.n c.in_ok-side.side c.args.buf.now _ h.value c.read_side.ensures.buffer

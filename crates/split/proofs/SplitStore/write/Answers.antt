@@ -1,43 +1,27 @@
-use Rattle.std.proofs.Common.{ℕ, List, length, Err, ap, ◌∙◌, rules}
-use Rattle.std.proofs.lemmas.Result.{err_from_is_err_and}
-use Rattle.split.specs.Sides.{of_side}
+use Rattle.std.proofs.Common.{◌≡◌, length, rules}
+use Rattle.split.specs.Sides.{of_side, closed_at}
 use Rattle.split.proofs.Joins.{write_amiss, kept_amiss, write_by, written_by}
 use Rattle.split.proofs.SplitStore.write.Goals as goal
 
-pub returns-in_err-side : goal.returns-in_err-side
-returns-in_err-side g c =
-    let p = err_from_is_err_and c.from_residual.result c.from_residual.ensures.1 in
-    let ps = g.A.Store.pages c.args.self.now.first in
-    let qs = g.B.Store.pages c.args.self.now.second in
-    let ps' = g.A.Store.pages c.find.new.self.first in
-    let qs' = g.B.Store.pages c.find.new.self.second in
-    let n : ℕ = c.args.n in
-    let bs : List ℕ = c.args.buf.now in
-    let e = c.in_err-side.field-0.0 in
-    let h = c.in_err-side.ensures in
-    record {
-      value = p.1 ∙ ap Err p.2 ∙ write_amiss ps qs n e (length bs) h.value;
-      after = kept_amiss ps qs n e bs ps' qs' h.still.first h.still.second h.value;
-      kept = search rules;
-    }
+pub returns-in_err-side-clause-value : goal.returns-in_err-side-clause-value
+returns-in_err-side-clause-value g c =
+    let e = write_amiss (g.A.Store.pages c.args.self.now.first) (g.B.Store.pages c.args.self.now.second) c.args.n c.in_err-side.field-0.0 (length c.args.buf.now) c.in_err-side.ensures.value in
+    search rules
 
-pub returns : goal.returns
-returns g c =
-    let ps = g.A.Store.pages c.args.self.now.first in
-    let qs = g.B.Store.pages c.args.self.now.second in
-    let ps' = g.A.Store.pages c.find.new.self.first in
-    let qs' = g.B.Store.pages c.find.new.self.second in
-    let ps'' = g.A.Store.pages c.write_side.new.self.first in
-    let qs'' = g.B.Store.pages c.write_side.new.self.second in
-    let n : ℕ = c.args.n in
-    let bs : List ℕ = c.args.buf.now in
+pub returns-in_err-side-clause-after : goal.returns-in_err-side-clause-after
+returns-in_err-side-clause-after g c =
+    let h = c.in_err-side.ensures in
+    kept_amiss (g.A.Store.pages c.args.self.now.first) (g.B.Store.pages c.args.self.now.second) c.args.n c.in_err-side.field-0.0 c.args.buf.now _ _ h.still.first h.still.second h.value
+
+pub returns-clause-value : goal.returns-clause-value
+returns-clause-value g c =
     let s = c.in_ok-side.side in
-    let layer : ℕ = of_side s g.A.Store.layer g.B.Store.layer in
     let h = c.in_ok-side.ensures in
-    let was = h.still in
+    let told : c.map_err.result ≡ closed_at c.args.n c.write_side.result = search rules in
+    write_by _ (g.A.Store.pages c.args.self.now.first) _ (g.B.Store.pages c.args.self.now.second) h.still.first h.still.second c.args.n s (of_side s g.A.Store.layer g.B.Store.layer) (length c.args.buf.now) c.write_side.result c.map_err.result h.value c.write_side.ensures.value told
+
+pub returns-clause-after : goal.returns-clause-after
+returns-clause-after g c =
+    let h = c.in_ok-side.ensures in
     let is = c.write_side.ensures in
-    record {
-      value = write_by ps' ps qs' qs was.first was.second n s layer (length bs) c.write_side.result c.closed_at.result h.value is.value c.closed_at.ensures;
-      after = written_by ps' ps qs' qs was.first was.second n s bs ps'' qs'' h.value is.first is.second;
-      kept = search rules;
-    }
+    written_by _ (g.A.Store.pages c.args.self.now.first) _ (g.B.Store.pages c.args.self.now.second) h.still.first h.still.second c.args.n c.in_ok-side.side c.args.buf.now _ _ h.value is.first is.second
