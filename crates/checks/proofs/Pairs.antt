@@ -60,17 +60,6 @@ module _ (ps : List Page) (n : ℕ) (bs : List ℕ) (z : 0 < n) (l : n ≤ check
         rest = λ m f g. page_beside one (check_page (length ps) n) m (renewed ps n bs) g ∙ page_beside ps n m bs f;
       }
 
-  -- the page has these bytes, and its check is written
-  pub put_check : (page_at ps n).content ≡ bytes bs → Put ps (written ps (check_page (length ps) n) (renewed ps n bs)) n bs
-  put_check e =
-      let ab = check_above (length ps) n z l in
-      record {
-        long = length_written ps (check_page (length ps) n) (renewed ps n bs);
-        own = page_beside ps (check_page (length ps) n) n (renewed ps n bs) (λ f. omega arith) ∙ ap (λ (c : Content). record { content = c; writable = open_at ps n }) e;
-        sums = page_written ps (check_page (length ps) n) (renewed ps n bs) (omega arith) (omega arith);
-        rest = λ m f g. page_beside ps (check_page (length ps) n) m (renewed ps n bs) g;
-      }
-
 module _ (ps ws : List Page) (n : ℕ) (bs : List ℕ) (z : 0 < n) (l : n ≤ checked_count (length ps)) (whole : (k : ℕ) → Whole (page_at ps k).content)
     (small : check bs < 2 ^ 64) (clear : is_readable (page_at ps (check_page (length ps) n)).content ≡ true) (put : Put ps ws n bs) where
   paired_as : (k : ℕ) (own sums : Page) → page_at ws k ≡ own → page_at ws (check_page (length ps) k) ≡ sums → checked_page ws k ≡ paired (check_cell k) own sums

@@ -1,6 +1,7 @@
 -- What a call of the layer answers, by what its parts answered. Assumes nothing.
-use Rattle.std.proofs.Common.{◌≡◌, ℕ, ◌+◌, ◌-◌, ◌*◌, ◌^◌, ◌<◌, ◌≤◌, Bool, true, false, cond, ◌&&◌, eqb, List, [], length, is_ok, Ok, Err, sym, refl, ap, ◌∙◌, arith}
+use Rattle.std.proofs.Common.{◌≡◌, ℕ, ◌+◌, ◌-◌, ◌*◌, ◌^◌, ◌<◌, ◌≤◌, Bool, true, false, cond, ◌&&◌, eqb, List, [], length, is_some, is_ok, Some, None, Ok, Err, sym, refl, ap, ◌∙◌, arith}
 use Rattle.std.proofs.lemmas.Bool.{eqb-true, le-leb, and_parts, true≢false}
+use Rattle.std.specs.Option.{ok_or}
 use Rattle.fault.specs.declared.kinds.Cause.TheVariants.{NoPage, WrongLength, CheckDiffers}
 use Rattle.fault.specs.declared.kinds.Fault.{Fault}
 use Rattle.fault.specs.Faults.{nowhere, on_page, fault}
@@ -38,6 +39,30 @@ module _ (ps : List Page) (n len : ℕ) where
 
   pub placed : (at : ℕ) → place_answer ps n len ≡ Ok at → (len ≡ 512) × (in_layer (length ps) n ≡ true) × (at ≡ check_page (length ps) n)
   placed at h = let t = both_tests (eqb len 512) (in_layer (length ps) n) _ _ (check_page (length ps) n) at h in (eqb-true len 512 t.0, t.1, t.2)
+
+-- what stands where a test held
+
+pub some_if : {A : Type 0} (b : Bool) (x : A) → is_some (cond b (Some x) None) ≡ b
+some_if true x = refl
+some_if false x = refl
+
+pub refused_if : {A : Type 0} (b : Bool) (x : A) (f e : Fault) → ok_or (cond b (Some x) None) f ≡ Err e → (b ≡ false) × (e ≡ f)
+refused_if true x f e h = absurd (let z : ◌≡◌ {A = ℕ} 0 1 = cc in omega arith)
+refused_if false x f e h = (refl, (cc))
+
+pub granted_if : {A : Type 0} (b : Bool) (x y : A) (f : Fault) → ok_or (cond b (Some x) None) f ≡ Ok y → (b ≡ true) × (y ≡ x)
+granted_if true x y f h = (refl, (cc))
+granted_if false x y f h = absurd (let z : ◌≡◌ {A = ℕ} 0 1 = cc in omega arith)
+
+-- a call before the bytes that it grants
+
+pub refused_first : {A : Type 0} (r : Checked (Unit {0})) (x : A) (e : Fault) → ◌>>◌ r (Ok x) ≡ Err e → r ≡ Err e
+refused_first (Ok y) x e h = absurd (let z : ◌≡◌ {A = ℕ} 0 1 = cc in omega arith)
+refused_first (Err f) x e h = cc
+
+pub granted_first : {A : Type 0} (r : Checked (Unit {0})) (x y : A) → ◌>>◌ r (Ok x) ≡ Ok y → (r ≡ Ok tt) × (y ≡ x)
+granted_first (Ok z) x y h = (refl, (cc))
+granted_first (Err f) x y h = absurd (let z : ◌≡◌ {A = ℕ} 0 1 = cc in omega arith)
 
 -- by the contents of a page and its check page
 

@@ -1,5 +1,5 @@
 -- Setting the checks, page by page. Assumes nothing.
-use Rattle.std.proofs.Common.{◌≡◌, ℕ, zero, suc, ◌+◌, ◌*◌, ◌^◌, ◌<◌, ◌≤◌, Bool, true, false, cond, not, ◌&&◌, eqb, ltb, leb, List, [], length, is_ok, sym, refl, ap, ◌∙◌, subst, ⊎_elim, arith}
+use Rattle.std.proofs.Common.{◌≡◌, ℕ, zero, suc, ◌+◌, ◌-◌, ◌*◌, ◌^◌, ◌<◌, ◌≤◌, Bool, true, false, cond, not, ◌&&◌, eqb, ltb, leb, List, [], length, is_ok, zero-add, sym, refl, ap, ◌∙◌, subst, ⊎_elim, arith}
 use Rattle.std.proofs.lemmas.List.FromFn.{length-map-range_with_len, get_or-map-range_with_len}
 use Rattle.std.proofs.lemmas.Bool.{eq-eqb, eqb-true, le-leb, lt-ltb, not-false, and_parts, and_from, and_cases, cases_eq, cases_Bool, true≢false, both_ways}
 use Rattle.fault.specs.Refusals.{Checked}
@@ -11,7 +11,7 @@ use Rattle.store.proofs.Steps.{write_open, kept_open}
 use Rattle.checks.specs.Layer.{check, checked_count, check_page, check_cell, is_readable, compared, checked_page, checked}
 use Rattle.checks.specs.Laws.{length_checked}
 use Rattle.checks.specs.Calls.{in_layer, agreeing, blank}
-use Rattle.checks.specs.Seals.{held, settable, stale, renewed, seal_page, seal_from, stale_from, Elsewhere, SealedBefore, Sealed, sealed_page, sealed_layer, stale_answer, seal_answer, seal_pages}
+use Rattle.checks.specs.Seals.{held, settable, stale, renewed, seal_page, seal_from, sealed, stale_from, stale_count, Elsewhere, SealedBefore, Sealed, sealed_page, sealed_layer, stale_answer, seal_answer, seal_pages}
 use Rattle.checks.proofs.Pages.{same_pages, after, length_written, page_written, page_beside, check_above, page_checked}
 use Rattle.checks.proofs.Pairs.{length_held}
 use Rattle.checks.proofs.Parts.{own_answer, sums_answer, held_any}
@@ -294,14 +294,14 @@ module _ (ps ws : List Page) (s : Sealed ps ws) where
 
 -- a turn of the loop
 
-pub at_most_one : (t : Bool) → cond t 1 0 ≤ 1
+at_most_one : (t : Bool) → cond t 1 0 ≤ 1
 at_most_one true = omega arith
 at_most_one false = omega arith
 
-pub record Turned (ps ws vs : List Page) (n r : ℕ) : Type 0 where
-  pub page : vs ≡ seal_page ws n
-  pub count : r ≡ cond (stale ps n) 1 0
-  pub more : SealedBefore ps vs (n + 1)
+record Turned (ps ws vs : List Page) (n r : ℕ) : Type 0 where
+  page : vs ≡ seal_page ws n
+  count : r ≡ cond (stale ps n) 1 0
+  more : SealedBefore ps vs (n + 1)
 
 module _ (layer : ℕ) (ps ws : List Page) (n at : ℕ) (z : 0 < n) (l : n ≤ checked_count (length ps)) (e : at ≡ check_page (length ps) n)
     (s : SealedBefore ps ws n) (whole : (k : ℕ) → Whole (page_at ws k).content) where
@@ -319,7 +319,7 @@ module _ (layer : ℕ) (ps ws : List Page) (n at : ℕ) (z : 0 < n) (l : n ≤ c
       let r = (settable_parts ws n (stale_settable ws n f)).0 in
       omega (arith, h, ap check (held_any (page_at ws n).content r))
 
-  pub turned : (vs : List Page) (r : ℕ) → vs ≡ seal_pages layer ws n at → r ≡ seal_answer layer ws n at
+  turned : (vs : List Page) (r : ℕ) → vs ≡ seal_pages layer ws n at → r ≡ seal_answer layer ws n at
       → (stale_answer layer ws n at ≡ true → check (read_buffer ws n blank) < 2 ^ 64) → Turned ps ws vs n r
   turned vs r v c small =
       let page : vs ≡ seal_page ws n = v ∙ ap (seal_pages layer ws n) at_here ∙ seal_is layer ws n inside whole in
@@ -329,8 +329,62 @@ module _ (layer : ℕ) (ps ws : List Page) (n at : ℕ) (z : 0 < n) (l : n ≤ c
         more = subst (λ w. SealedBefore ps w (n + 1)) (sym page) (one_more ps ws n z l s whole (small_held small));
       }
 
-pub seal_more : (ws vs : List Page) (n j k : ℕ) → j ≡ suc k → vs ≡ seal_page ws n → seal_from vs (n + 1) k ≡ seal_from ws n j
-seal_more ws vs n j k e v = ap (λ w. seal_from w (n + 1) k) v ∙ sym (ap (seal_from ws n) e)
+-- the pages before b are done, and `changed` of their checks were stale
+pub record Part (ps ws : List Page) (changed b : ℕ) : Type 0 where
+  pub few : changed < b
+  pub within : b ≤ checked_count (length ps) + 1
+  pub count : changed + stale_from ps b (checked_count (length ps) + 1 - b) ≡ stale_count ps
+  pub pages : seal_from ws b (checked_count (length ps) + 1 - b) ≡ sealed ps
+  pub set : SealedBefore ps ws b
 
-pub stale_more : (ps : List Page) (n j k : ℕ) → j ≡ suc k → stale_from ps n j ≡ cond (stale ps n) 1 0 + stale_from ps (n + 1) k
-stale_more ps n j k e = ap (stale_from ps n) e
+pub part_none : (ps : List Page) → Part ps ps 0 1
+unfolding sealed stale_count
+part_none ps =
+    let all : checked_count (length ps) + 1 - 1 ≡ checked_count (length ps) = omega arith in
+    record {
+      few = omega arith;
+      within = omega arith;
+      count = zero-add (stale_from ps 1 (checked_count (length ps) + 1 - 1)) ∙ ap (stale_from ps 1) all;
+      pages = ap (seal_from ps 1) all;
+      set = none_set ps;
+    }
+
+part_more : (ps ws vs : List Page) (changed n r : ℕ) → n ≤ checked_count (length ps) → Part ps ws changed n → Turned ps ws vs n r → Part ps vs (changed + r) (n + 1)
+part_more ps ws vs changed n r l part t =
+    let k : ℕ = checked_count (length ps) + 1 - (n + 1) in
+    let left : checked_count (length ps) + 1 - n ≡ suc k = omega arith in
+    let one = at_most_one (stale ps n) in
+    let more = ap (stale_from ps n) left in
+    record {
+      few = omega (arith, part.few, t.count, one);
+      within = omega arith;
+      count = omega (arith, part.count, t.count, more);
+      pages = ap (λ w. seal_from w (n + 1) k) t.page ∙ sym (ap (seal_from ws n) left) ∙ part.pages;
+      set = t.more;
+    }
+
+pub part_sealed : (layer : ℕ) (ps ws vs : List Page) (below end changed n r : ℕ) → below ≡ length ps → end ≡ checked_count below → 1 ≤ n → n ≤ end
+    → ((k : ℕ) → Whole (page_at ws k).content) → Part ps ws changed n → vs ≡ seal_pages layer ws n (check_page below n) → r ≡ seal_answer layer ws n (check_page below n)
+    → (stale_answer layer ws n (check_page below n) ≡ true → check (read_buffer ws n blank) < 2 ^ 64) → Part ps vs (changed + r) (n + 1)
+part_sealed layer ps ws vs below end changed n r b e z m whole part v c small =
+    let z' : 0 < n = omega arith in
+    let l : n ≤ checked_count (length ps) = omega (arith, e ∙ ap checked_count b) in
+    part_more ps ws vs changed n r l part (turned layer ps ws n (check_page below n) z' l (ap (λ q. check_page q n) b) part.set whole vs r v c small)
+
+-- all are done
+pub record AllDone (ps ws : List Page) (changed : ℕ) : Type 0 where
+  pub value : changed ≡ stale_count ps
+  pub after : ws ≡ sealed ps
+  pub cells : Sealed ps ws
+  pub layer : checked ws ≡ sealed_layer ps
+
+pub part_all : (ps ws : List Page) (changed b : ℕ) → b ≡ checked_count (length ps) + 1 → Part ps ws changed b → AllDone ps ws changed
+part_all ps ws changed b end part =
+    let none : checked_count (length ps) + 1 - b ≡ 0 = omega arith in
+    let done : Sealed ps ws = subst (λ n. SealedBefore ps ws n) end part.set in
+    record {
+      value = omega (arith, part.count, ap (stale_from ps b) none);
+      after = sym (ap (seal_from ws b) none) ∙ part.pages;
+      cells = done;
+      layer = layer_sealed ps ws done;
+    }

@@ -1,10 +1,10 @@
 -- What the parts of a call answer, by what the store below answers. Assumes nothing.
-use Rattle.std.specs.Prelude.{ℕ, Bool, ◌&&◌, List, length, replicate, is_ok, Ok, Err, ◌==◌, nat_le, nat_lt}
+use Rattle.std.specs.Prelude.{◌≡◌, ℕ, Bool, cond, ◌&&◌, List, length, replicate, is_ok, Some, None, Ok, Err, Option, ◌==◌, nat_le, nat_lt}
 use Rattle.fault.specs.declared.kinds.Cause.TheVariants.{NoPage, WrongLength, CheckDiffers}
 use Rattle.fault.specs.Faults.{nowhere, on_page, fault, mark}
 use Rattle.fault.specs.Refusals.{Checked, ◌>>◌, ◌else◌, if_granted}
 use Rattle.page.specs.Cells.{cell_at, has_cell, put_cell}
-use Rattle.store.specs.Pages.{Page}
+use Rattle.store.specs.Pages.{Page, Kept}
 use Rattle.store.specs.Rules.{open_at, read_answer, read_buffer, write_answer, write_pages}
 use Rattle.checks.specs.Layer.{check, checked_count, check_page, check_cell}
 
@@ -32,6 +32,11 @@ agreeing bs cs i = has_cell cs i && check bs == cell_at cs i
 abbrev pub blank : List ℕ
 blank = replicate 512 0
 
+-- the store below means what it meant, and keeps what it kept
+pub record Still {S : Type 0} (pages_of : S → List Page) (kept_of : S → Kept) (s t : S) : Type 0 where
+  pub same : pages_of t ≡ pages_of s
+  pub kept : kept_of t ≡ kept_of s
+
 -- page n is read, then page `at` below, and the two are compared
 abbrev pub verify_answer : ℕ → List Page → ℕ → ℕ → Checked (Unit {0})
 verify_answer layer ps n at = do
@@ -39,9 +44,19 @@ verify_answer layer ps n at = do
   for_page n (read_answer layer ps at 512)
   agreeing (read_buffer ps n blank) (read_buffer ps at blank) (check_cell n) else fault CheckDiffers 8 (on_page n)
 
+-- the bytes of page n, where that is granted
+abbrev pub verified_bytes : ℕ → List Page → ℕ → ℕ → Checked (List ℕ)
+verified_bytes layer ps n at = do
+  verify_answer layer ps n at
+  Ok (read_buffer ps n blank)
+
 -- page n and page `at` below are open, and `at` can be read
 abbrev pub ready_answer : ℕ → List Page → ℕ → ℕ → Bool
 ready_answer layer ps n at = open_at ps n && (open_at ps at && is_ok (read_answer layer ps at 512))
+
+-- the bytes of page `at` below, where that is so
+abbrev pub ready_bytes : ℕ → List Page → ℕ → ℕ → Option (List ℕ)
+ready_bytes layer ps n at = cond (ready_answer layer ps n at) (Some (read_buffer ps at blank)) None
 
 -- page n is written, then the check of its bytes into `cs`, the bytes of page `at` below
 abbrev pub put_answer : ℕ → List Page → ℕ → ℕ → List ℕ → Checked (Unit {0})

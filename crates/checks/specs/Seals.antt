@@ -1,5 +1,5 @@
 -- Setting the checks of the pages. Assumes nothing.
-use Rattle.std.specs.Prelude.{◌≡◌, ℕ, zero, suc, ◌+◌, ◌<◌, ◌≤◌, Bool, true, false, cond, not, ◌&&◌, List, [], map, length, is_ok, ◌==◌, ◌≢◌}
+use Rattle.std.specs.Prelude.{◌≡◌, ℕ, zero, suc, ◌+◌, ◌<◌, ◌≤◌, Bool, true, false, cond, not, ◌&&◌, List, [], map, length, is_ok, Some, None, Option, ◌==◌, ◌≢◌}
 use Rattle.std.specs.List.{range_with_len}
 use Rattle.page.specs.Cells.{cell_at, put_at, put_cell}
 use Rattle.store.specs.Pages.{Page, page_at}
@@ -75,6 +75,10 @@ sealed_layer ps = map (sealed_page ps) (range_with_len 1 (checked_count (length 
 abbrev pub stale_answer : ℕ → List Page → ℕ → ℕ → Bool
 stale_answer layer ps n at =
     is_ok (read_answer layer ps n 512) && (is_ok (read_answer layer ps at 512) && (open_at ps at && not (agreeing (read_buffer ps n blank) (read_buffer ps at blank) (check_cell n))))
+
+abbrev pub renewed_bytes : ℕ → List Page → ℕ → ℕ → Option (List ℕ)
+renewed_bytes layer ps n at =
+    cond (stale_answer layer ps n at) (Some (put_cell (read_buffer ps at blank) (check_cell n) (check (read_buffer ps n blank)))) None
 
 abbrev pub seal_answer : ℕ → List Page → ℕ → ℕ → ℕ
 seal_answer layer ps n at = cond (stale_answer layer ps n at) (cond (is_ok (write_answer layer ps at 512)) 1 0) 0

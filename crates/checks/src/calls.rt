@@ -1,8 +1,9 @@
-// The parts of a call, in the words of the store below.
+// The parts of a call, in the words of the store below. Page n and the page `at` of its check go as two numbers: every
+// clause speaks of them apart, and as one struct they would only be longer to say.
 ghost use Rattle.std.specs.Prelude.{◌≡◌, ◌^◌, ◌<◌, ◌≤◌, length, OnOk};
 ghost use Rattle.store.specs.Rules.{read_buffer};
 ghost use Rattle.checks.specs.Layer.{check};
-ghost use Rattle.checks.specs.Calls.{place_answer, verify_answer, ready_answer, put_answer, put_pages, blank};
+ghost use Rattle.checks.specs.Calls.{place_answer, verified_bytes, ready_bytes, Still, put_answer, put_pages, blank};
 
 use crate::sums::{agrees, check_cell, check_page, for_page, in_layer, weigh};
 use crate::{CHECKS, Checks};
@@ -15,8 +16,7 @@ impl<S: Store> Checks<S> {
     pub(super) fn place(&mut self, n: u64, len: usize) -> Result<u64, Fault>
         ensures value { result ≡ place_answer (S.Store.pages self.old.lower) n len }
         ensures inside { OnOk result ((0 < n) × (len ≡ 512)) }
-        ensures same { S.Store.pages self.new.lower ≡ S.Store.pages self.old.lower }
-        ensures kept { S.Store.kept self.new.lower ≡ S.Store.kept self.old.lower }
+        ensures still { Still S.Store.pages S.Store.kept self.old.lower self.new.lower }
     {
         if len != PAGE_BYTES {
             return Err(Fault::new(Cause::WrongLength, CHECKS, Place::nowhere()));
@@ -28,36 +28,32 @@ impl<S: Store> Checks<S> {
         Ok(check_page(below, n))
     }
 
-    // Reads page n, and refuses it if it differs from its check in page `at` below.
-    pub(super) fn verify(&mut self, n: u64, at: u64, page: &mut [u8]) -> Result<(), Fault>
-        requires page_value { page.old ≡ blank }
-        requires n_nonzero { 0 < n }
-        ensures value { result ≡ verify_answer S.Store.layer (S.Store.pages self.old.lower) n at }
-        ensures buffer { page.new ≡ read_buffer (S.Store.pages self.old.lower) n blank }
-        ensures same { S.Store.pages self.new.lower ≡ S.Store.pages self.old.lower }
-        ensures kept { S.Store.kept self.new.lower ≡ S.Store.kept self.old.lower }
+    // The bytes of page n, which is refused if it differs from its check in page `at` below.
+    pub(super) fn verify(&mut self, n: u64, at: u64) -> Result<[u8; PAGE_BYTES], Fault>
+        requires { 0 < n }
+        ensures value { result ≡ verified_bytes S.Store.layer (S.Store.pages self.old.lower) n at }
+        ensures still { Still S.Store.pages S.Store.kept self.old.lower self.new.lower }
     {
-        self.lower.read(n, page)?;
+        let mut page = [0u8; PAGE_BYTES];
+        self.lower.read(n, &mut page)?;
         let mut sums = [0u8; PAGE_BYTES];
         for_page(self.lower.read(at, &mut sums), n)?;
-        if !agrees(page, &sums, check_cell(n)) {
+        if !agrees(&page, &sums, check_cell(n)) {
             return Err(Fault::new(Cause::CheckDiffers, CHECKS, Place::on_page(n)));
         }
-        Ok(())
+        Ok(page)
     }
 
-    // Whether page n and page `at` below are open, and `at` can be read: its bytes are then in `sums`.
-    pub(super) fn ready(&mut self, n: u64, at: u64, sums: &mut [u8]) -> bool
-        requires { sums.old ≡ blank }
-        ensures value { result ≡ ready_answer S.Store.layer (S.Store.pages self.old.lower) n at }
-        ensures buffer { sums.new ≡ read_buffer (S.Store.pages self.old.lower) at blank }
-        ensures same { S.Store.pages self.new.lower ≡ S.Store.pages self.old.lower }
-        ensures kept { S.Store.kept self.new.lower ≡ S.Store.kept self.old.lower }
+    // The bytes of page `at` below, if it can be read, and page n and page `at` are open.
+    pub(super) fn ready(&mut self, n: u64, at: u64) -> Option<[u8; PAGE_BYTES]>
+        ensures value { result ≡ ready_bytes S.Store.layer (S.Store.pages self.old.lower) n at }
+        ensures still { Still S.Store.pages S.Store.kept self.old.lower self.new.lower }
     {
-        let seen = self.lower.read(at, sums).is_ok();
+        let mut sums = [0u8; PAGE_BYTES];
+        let seen = self.lower.read(at, &mut sums).is_ok();
         let own = self.lower.is_open(n);
         let other = self.lower.is_open(at);
-        own && other && seen
+        (own && other && seen).then_some(sums)
     }
 
     // Writes page n, and then its check into page `at` below, of which `sums` has the bytes.

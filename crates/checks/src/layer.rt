@@ -6,7 +6,7 @@ ghost use Rattle.checks.specs.Laws.{checked_lawful};
 use crate::sums::{check_page, checked_count, in_layer};
 use crate::{CHECKS, Checks};
 use fault::{Cause, Fault, Place};
-use store::{PAGE_BYTES, Store};
+use store::Store;
 
 impl<S: Store> Store for Checks<S> {
     const LAYER: u32 = CHECKS;
@@ -34,24 +34,19 @@ impl<S: Store> Store for Checks<S> {
         if !in_layer(below, n) {
             return false;
         }
-        let mut sums = [0u8; PAGE_BYTES];
-        self.ready(n, check_page(below, n), &mut sums)
+        self.ready(n, check_page(below, n)).is_some()
     }
 
     fn read(&mut self, n: u64, buf: &mut [u8]) -> Result<(), Fault> {
         let at = self.place(n, buf.len())?;
-        let mut page = [0u8; PAGE_BYTES];
-        self.verify(n, at, &mut page)?;
-        buf.copy_from_slice(&page);
+        buf.copy_from_slice(&self.verify(n, at)?);
         Ok(())
     }
 
     fn write(&mut self, n: u64, buf: &[u8]) -> Result<(), Fault> {
         let at = self.place(n, buf.len())?;
-        let mut sums = [0u8; PAGE_BYTES];
-        if !self.ready(n, at, &mut sums) {
-            return Err(Fault::new(Cause::PageClosed, CHECKS, Place::on_page(n)));
-        }
+        let closed = Fault::new(Cause::PageClosed, CHECKS, Place::on_page(n));
+        let mut sums = self.ready(n, at).ok_or(closed)?;
         self.put(n, at, buf, &mut sums)
     }
 }

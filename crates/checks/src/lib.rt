@@ -10,7 +10,7 @@ mod sums;
 
 use store::Store;
 
-// The layer that its faults name.
+// The layer that its faults name. A proof of a generic impl can't read LAYER.
 const CHECKS: u32 = 8;
 
 // A store over the pages of another, of which the last keep the checks of the others.

@@ -1,9 +1,9 @@
 // Sets the checks of the pages.
-ghost use Rattle.std.specs.Prelude.{◌≡◌, ◌^◌, ◌<◌, true};
+ghost use Rattle.std.specs.Prelude.{◌≡◌, ◌^◌, ◌<◌, true, OnSome};
 ghost use Rattle.store.specs.Rules.{read_buffer};
 ghost use Rattle.checks.specs.Layer.{check, check_page, checked};
-ghost use Rattle.checks.specs.Calls.{blank, in_layer};
-ghost use Rattle.checks.specs.Seals.{stale_answer, seal_answer, seal_pages, sealed, stale_count, Sealed, sealed_layer};
+ghost use Rattle.checks.specs.Calls.{blank, in_layer, Still};
+ghost use Rattle.checks.specs.Seals.{stale_answer, renewed_bytes, seal_answer, seal_pages, sealed, stale_count, Sealed, sealed_layer};
 
 use crate::Checks;
 use crate::sums::{agrees, check_cell, check_page, checked_count, weigh};
@@ -11,21 +11,23 @@ use page::put_cell;
 use store::{PAGE_BYTES, Store};
 
 impl<S: Store> Checks<S> {
-    // Whether the check of page n can be set in page `at` below, and is another: the bytes of the two are then read.
-    fn is_stale(&mut self, n: u64, at: u64, page: &mut [u8], sums: &mut [u8]) -> bool
-        requires page { page.old ≡ blank }
-        requires sums { sums.old ≡ blank }
-        requires first { 0 < n }
-        ensures value { result ≡ stale_answer S.Store.layer (S.Store.pages self.old.lower) n at }
-        ensures page { page.new ≡ read_buffer (S.Store.pages self.old.lower) n blank }
-        ensures sums { sums.new ≡ read_buffer (S.Store.pages self.old.lower) at blank }
-        ensures same { S.Store.pages self.new.lower ≡ S.Store.pages self.old.lower }
-        ensures kept { S.Store.kept self.new.lower ≡ S.Store.kept self.old.lower }
+    // The bytes of page `at` below with the check of page n, if it can be set there and is another.
+    fn renewed(&mut self, n: u64, at: u64) -> Option<[u8; PAGE_BYTES]>
+        requires { 0 < n }
+        ensures value { result ≡ renewed_bytes S.Store.layer (S.Store.pages self.old.lower) n at }
+        ensures small { OnSome result (check (read_buffer (S.Store.pages self.old.lower) n blank) < 2 ^ 64) }
+        ensures still { Still S.Store.pages S.Store.kept self.old.lower self.new.lower }
     {
-        let own = self.lower.read(n, page).is_ok();
-        let other = self.lower.read(at, sums).is_ok();
+        let mut page = [0u8; PAGE_BYTES];
+        let mut sums = [0u8; PAGE_BYTES];
+        let own = self.lower.read(n, &mut page).is_ok();
+        let other = self.lower.read(at, &mut sums).is_ok();
         let open = self.lower.is_open(at);
-        own && other && open && !agrees(page, sums, check_cell(n))
+        if !(own && other && open && !agrees(&page, &sums, check_cell(n))) {
+            return None;
+        }
+        put_cell(&mut sums, check_cell(n), weigh(&page));
+        Some(sums)
     }
 
     // Sets the check of page n over `below` pages, if it can be set; answers how many cells that changed.
@@ -37,16 +39,10 @@ impl<S: Store> Checks<S> {
         ensures kept { S.Store.kept self.new.lower ≡ S.Store.kept self.old.lower }
     {
         let at = check_page(below, n);
-        let mut page = [0u8; PAGE_BYTES];
-        let mut sums = [0u8; PAGE_BYTES];
-        if !self.is_stale(n, at, &mut page, &mut sums) {
-            return 0;
-        }
-        put_cell(&mut sums, check_cell(n), weigh(&page));
-        if self.lower.write(at, &sums).is_ok() {
-            1
-        } else {
-            0
+        // not map_or: that does not say that the store below stays where there is nothing to set
+        match self.renewed(n, at) {
+            Some(sums) => u64::from(self.lower.write(at, &sums).is_ok()),
+            None => 0,
         }
     }
 
@@ -61,7 +57,7 @@ impl<S: Store> Checks<S> {
     {
         let below = self.lower.count();
         let mut changed = 0;
-        for n in 1..checked_count(below) + 1 {
+        for n in 1..=checked_count(below) {
             changed += self.seal_page(below, n);
         }
         changed

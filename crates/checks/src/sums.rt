@@ -19,9 +19,9 @@ pub(super) fn weigh(bytes: &[u8]) -> u64
     requires { length bytes.now ≤ 512 }
     ensures { result ≡ check bytes.now }
 {
-    let mut sum: u64 = 0;
-    for i in 0..bytes.len() {
-        sum += share(i, bytes[i]);
+    let mut sum = 0;
+    for (i, &byte) in bytes.iter().enumerate() {
+        sum += share(i, byte);
     }
     sum
 }
@@ -36,7 +36,7 @@ pub(super) fn checked_count(below: u64) -> u64
 pub(super) fn in_layer(below: u64, n: u64) -> bool
     ensures { result ≡ in_layer below n }
 {
-    0 < n && n <= checked_count(below)
+    (1..=checked_count(below)).contains(&n)
 }
 
 // The page below with the check of page n.
@@ -60,18 +60,12 @@ pub(super) fn agrees(page: &[u8], sums: &[u8], i: u64) -> bool
     requires { length page.now ≤ 512 }
     ensures { result ≡ agreeing page.now sums.now i }
 {
-    match cell(sums, i) {
-        Some(sum) => weigh(page) == sum,
-        None => false,
-    }
+    cell(sums, i).is_some_and(|sum| weigh(page) == sum)
 }
 
 // A refusal of a check page, reported for page n.
 pub(super) fn for_page(answer: Result<(), Fault>, n: u64) -> Result<(), Fault>
     ensures { result ≡ for_page n answer }
 {
-    match answer {
-        Ok(()) => Ok(()),
-        Err(e) => Err(Fault::marked(e.cause, e.layer, n)),
-    }
+    answer.map_err(|e| Fault::marked(e.cause, e.layer, n))
 }

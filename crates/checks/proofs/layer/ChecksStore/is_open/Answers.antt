@@ -1,9 +1,9 @@
-use Rattle.std.proofs.Common.{◌≡◌, ℕ, true, false, length, sym, ap, ◌∙◌}
+use Rattle.std.proofs.Common.{◌≡◌, ℕ, true, false, length, is_some, sym, ap, ◌∙◌}
 use Rattle.store.proofs.Steps.{open_outside}
 use Rattle.checks.specs.Layer.{check_page, checked}
 use Rattle.checks.specs.Calls.{in_layer, ready_answer}
 use Rattle.checks.proofs.Pages.{layer_is}
-use Rattle.checks.proofs.Parts.{ready_is}
+use Rattle.checks.proofs.Parts.{some_if, ready_is}
 use Rattle.checks.proofs.layer.ChecksStore.is_open.Goals as goal
 
 pub returns-then-not-in_layer : goal.returns-then-not-in_layer
@@ -25,10 +25,12 @@ returns g c =
     let at = c.check_page.ensures ∙ ap (λ q. check_page q n) c.count-below.ensures.value in
     record {
       value =
-          c.ready.ensures.value
+          c.is_some.ensures
+          ∙ ap is_some c.ready.ensures.value
+          ∙ some_if (ready_answer g.S.Store.layer (g.S.Store.pages c.count-below.new.self) n c.check_page.result) _
           ∙ ap (λ w. ready_answer g.S.Store.layer w n c.check_page.result) c.count-below.ensures.same
           ∙ ap (ready_answer g.S.Store.layer ps n) at
           ∙ ready_is g.S.Store.layer ps n inside;
-      same = ap checked (c.ready.ensures.same ∙ c.count-below.ensures.same);
-      kept = c.ready.ensures.kept ∙ c.count-below.ensures.kept;
+      same = ap checked (c.ready.ensures.still.same ∙ c.count-below.ensures.same);
+      kept = c.ready.ensures.still.kept ∙ c.count-below.ensures.kept;
     }
