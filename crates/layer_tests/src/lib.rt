@@ -10,19 +10,6 @@ mod tests {
     use std::test::Fail;
     use store::{Image, Store};
 
-    fn check_fault(
-        rt: &impl Abort,
-        fault: Fault,
-        cause: u32,
-        layer: u32,
-        page: u64,
-    ) -> Result<(), Fail> {
-        assert_eq!(rt; fault.cause, cause);
-        assert_eq!(rt; fault.layer, layer);
-        assert_eq!(rt; fault.place.page, page);
-        Ok(())
-    }
-
     // Reads a page that must be refused.
     fn refused<S: Store>(
         rt: &impl Abort,
@@ -32,22 +19,17 @@ mod tests {
         layer: u32,
     ) -> Result<(), Fail> {
         let mut bytes = [7u8; 512];
-        match (*store).read(page, &mut bytes) {
-            Ok(()) => Err(Fail::new("the page is readable")),
-            Err(fault) => check_fault(rt, fault, cause, layer, page),
-        }
+        let refusal = Fault::marked(cause, layer, page);
+        assert_eq!(rt; (*store).read(page, &mut bytes), Err(refusal));
+        Ok(())
     }
 
     // Reads a page and checks its first byte.
     fn reads<S: Store>(rt: &impl Abort, store: &mut S, page: u64, first: u8) -> Result<(), Fail> {
         let mut bytes = [7u8; 512];
-        match (*store).read(page, &mut bytes) {
-            Ok(()) => {
-                assert_eq!(rt; bytes[0], first);
-                Ok(())
-            },
-            Err(_) => Err(Fail::new("the page is unreadable")),
-        }
+        assert_eq!(rt; (*store).read(page, &mut bytes), Ok(()));
+        assert_eq!(rt; bytes[0], first);
+        Ok(())
     }
 
     #[test]
