@@ -1,36 +1,11 @@
 -- Round robin comes to every frame that stays occupied. Assumes nothing.
-use Rattle.std.proofs.Common.{◌≡◌, ℕ, zero, suc, ◌+◌, ◌-◌, ◌<◌, ◌≤◌, Bool, true, false, cond, leb, ◌⊎◌, List, [], ◌∷◌, ◌++◌, length, get_or, sym, refl, ap, ◌∙◌, inl, inr, ⊎_elim, append-nil, arith}
-use Rattle.std.proofs.lemmas.Bool.{cases_Bool, cases_eq, cases_lt, both_ways}
+use Rattle.std.proofs.Common.{◌≡◌, ℕ, ◌+◌, ◌-◌, ◌<◌, ◌≤◌, Bool, true, false, cond, leb, List, [], ◌∷◌, length, get_or, sym, ap, ◌∙◌, inl, inr, ⊎_elim, append-nil, arith}
+use Rattle.std.proofs.lemmas.Bool.{cases_eq, cases_lt, both_ways}
 use Rattle.std.proofs.lemmas.Bool.Decides.{nat_tests}
 use Rattle.policy.specs.Turns.{span, around, first_held, round_taken, goes_on}
 use Rattle.policy.specs.Runs.{Run, Stays, Among, Fair}
+use Rattle.policy.proofs.Walking.{Here, Empty, first_at}
 use Rattle.policy.specs.declared.round.RoundRobin.{RoundRobin}
-
--- the first occupied one of n frames from at on is r
-record Here (occ : List Bool) (at n r : ℕ) : Type 0 where
-  above : at ≤ r
-  below : r < at + n
-  before : (k : ℕ) → at ≤ k → k < r → get_or occ k false ≡ false
-
-abbrev Empty : List Bool → ℕ → ℕ → Type 0
-Empty occ at n = (k : ℕ) → at ≤ k → k < at + n → get_or occ k false ≡ false
-
-first_cases : (occ : List Bool) (none at n : ℕ) (rest : List ℕ) → Here occ at n (first_held occ none (span at n ++ rest)) ⊎ (Empty occ at n × (first_held occ none (span at n ++ rest) ≡ first_held occ none rest))
-unfolding span first_held
-first_cases occ none at zero rest = inr (λ k a b. absurd (omega arith), refl)
-first_cases occ none at (suc n) rest =
-    ⊎_elim
-    (λ (held : get_or occ at false ≡ true). rw held (inl (record { above = omega arith; below = omega arith; before = λ k a b. absurd (omega arith) })))
-    (λ (free : get_or occ at false ≡ false).
-    let step : (k : ℕ) → (suc at ≤ k → get_or occ k false ≡ false) → at ≤ k → get_or occ k false ≡ false = λ k later a. ⊎_elim (λ (e : k ≡ at). ap (λ (j : ℕ). get_or occ j false) e ∙ free) (λ (n : k ≡ at → ⊥). later (omega arith)) (cases_eq k at) in
-    rw free
-    (⊎_elim
-    (λ (h : Here occ (suc at) n (first_held occ none (span (suc at) n ++ rest))).
-    inl (record { above = omega (arith, h.above); below = omega (arith, h.below); before = λ k a b. step k (λ l. h.before k l b) a }))
-    (λ (h : Empty occ (suc at) n × (first_held occ none (span (suc at) n ++ rest) ≡ first_held occ none rest)).
-    inr (λ k a b. step k (λ l. h.0 k l (omega arith)) a, h.1))
-    (first_cases occ none (suc at) n rest)))
-    (cases_Bool (get_or occ at false))
 
 -- how far k is from next, going round
 away : ℕ → ℕ → ℕ → ℕ
@@ -49,9 +24,6 @@ gain_later f next r k a b l past other = grind (arith, nat_tests)
 gain_sooner : (f next r k : ℕ) → next ≤ f → r < next → r < k → k < next → away f (goes_on f next r) k < away f next k
 unfolding away
 gain_sooner f next r k w a b l = grind (arith, nat_tests)
-
-first_at : (occ : List Bool) (none at n : ℕ) (rest : List ℕ) (r : ℕ) → r ≡ first_held occ none (span at n ++ rest) → Here occ at n r ⊎ (Empty occ at n × (r ≡ first_held occ none rest))
-first_at occ none at n rest r e = rw e (first_cases occ none at n rest)
 
 -- unless it takes k, an answer comes nearer to k
 nearer : (occ : List Bool) (f next k r : ℕ) → next ≤ f → k < f → get_or occ k false ≡ true → r ≡ round_taken occ f next → (r ≡ k → ⊥) → away f (goes_on f next r) k < away f next k

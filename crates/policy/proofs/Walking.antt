@@ -1,48 +1,89 @@
 -- How a scan goes on. Assumes nothing.
-use Rattle.std.proofs.Common.{◌≡◌, ℕ, zero, suc, ◌+◌, ◌-◌, ◌<◌, ◌≤◌, Bool, true, false, ltb, List, [], ◌∷◌, ◌++◌, get_or, set, sym, refl, ap, ◌∙◌, ⊎_elim, append-nil, add-one, arith}
-use Rattle.std.proofs.lemmas.Bool.{cases_lt, lt-ltb, le-ltb}
+use Rattle.std.proofs.Common.{◌≡◌, ℕ, zero, suc, ◌+◌, ◌-◌, ◌<◌, ◌≤◌, Bool, true, false, ltb, ◌⊎◌, inl, inr, Option, Some, None, List, [], ◌∷◌, ◌++◌, get_or, set, sym, refl, ap, ◌∙◌, ⊎_elim, append-nil, add-one, arith}
+use Rattle.std.proofs.lemmas.Bool.{cases_Bool, cases_eq, cases_lt, lt-ltb, le-ltb}
+use Rattle.std.specs.List.{find, range_with_len}
+use Rattle.std.specs.Option.{option_map, unwrap_or}
+use Rattle.policy.specs.Answers.{Answer}
 use Rattle.policy.specs.Turns.{span, around, first_held, round_taken, came, walk, first_round, chance_taken, chance_left}
 
-found_at : (occ : List Bool) (none at n r : ℕ) (rest : List ℕ) → at ≤ r → r < at + n → ((k : ℕ) → at ≤ k → k < r → get_or occ k false ≡ false) → get_or occ r false ≡ true → first_held occ none (span at n ++ rest) ≡ r
+-- the first occupied one of n frames from at on is r
+pub record Here (occ : List Bool) (at n r : ℕ) : Type 0 where
+  pub above : at ≤ r
+  pub below : r < at + n
+  pub held : get_or occ r false ≡ true
+  pub before : (k : ℕ) → at ≤ k → k < r → get_or occ k false ≡ false
+
+abbrev pub Empty : List Bool → ℕ → ℕ → Type 0
+Empty occ at n = (k : ℕ) → at ≤ k → k < at + n → get_or occ k false ≡ false
+
+first_cases : (occ : List Bool) (none at n : ℕ) (rest : List ℕ) → Here occ at n (first_held occ none (span at n ++ rest)) ⊎ (Empty occ at n × (first_held occ none (span at n ++ rest) ≡ first_held occ none rest))
 unfolding span first_held
-found_at occ none at zero r rest l h before held = absurd (omega arith)
-found_at occ none at (suc n) r rest l h before held =
+first_cases occ none at zero rest = inr (λ k a b. absurd (omega arith), refl)
+first_cases occ none at (suc n) rest =
     ⊎_elim
-    (λ (m : at < r). rw (before at (omega arith) m) (found_at occ none (suc at) n r rest (omega arith) (omega arith) (λ k a b. before k (omega arith) b) held))
-    (λ (m : r ≤ at).
-    let same : r ≡ at = omega arith in
-    let here : get_or occ at false ≡ true = rw same at held in
-    rw here (sym same))
-    (cases_lt at r)
+    (λ (held : get_or occ at false ≡ true). rw held (inl (record { above = omega arith; below = omega arith; held = held; before = λ k a b. absurd (omega arith) })))
+    (λ (free : get_or occ at false ≡ false).
+    let step : (k : ℕ) → (suc at ≤ k → get_or occ k false ≡ false) → at ≤ k → get_or occ k false ≡ false = λ k later a. ⊎_elim (λ (e : k ≡ at). ap (λ (j : ℕ). get_or occ j false) e ∙ free) (λ (n : k ≡ at → ⊥). later (omega arith)) (cases_eq k at) in
+    rw free
+    (⊎_elim
+    (λ (h : Here occ (suc at) n (first_held occ none (span (suc at) n ++ rest))).
+    inl (record { above = omega (arith, h.above); below = omega (arith, h.below); held = h.held; before = λ k a b. step k (λ l. h.before k l b) a }))
+    (λ (h : Empty occ (suc at) n × (first_held occ none (span (suc at) n ++ rest) ≡ first_held occ none rest)).
+    inr (λ k a b. step k (λ l. h.0 k l (omega arith)) a, h.1))
+    (first_cases occ none (suc at) n rest)))
+    (cases_Bool (get_or occ at false))
 
-none_at : (occ : List Bool) (none at n : ℕ) (rest : List ℕ) → ((k : ℕ) → at ≤ k → k < at + n → get_or occ k false ≡ false) → first_held occ none (span at n ++ rest) ≡ first_held occ none rest
-unfolding span first_held
-none_at occ none at zero rest before = refl
-none_at occ none at (suc n) rest before =
-    rw (before at (omega arith) (omega arith)) (none_at occ none (suc at) n rest (λ k a b. before k (omega arith) (omega arith)))
+pub first_at : (occ : List Bool) (none at n : ℕ) (rest : List ℕ) (r : ℕ) → r ≡ first_held occ none (span at n ++ rest) → Here occ at n r ⊎ (Empty occ at n × (r ≡ first_held occ none rest))
+first_at occ none at n rest r e = rw e (first_cases occ none at n rest)
 
--- round robin takes a frame of the first part
-pub turn_later : (occ : List Bool) (f next r : ℕ) → next ≤ r → r < f → ((k : ℕ) → next ≤ k → k < r → get_or occ k false ≡ false) → get_or occ r false ≡ true → r ≡ round_taken occ f next
-unfolding around round_taken
-turn_later occ f next r l h before held = sym (found_at occ f next (f - next) r (span 0 next) l (omega arith) before held)
-
--- of the second part
-pub turn_sooner : (occ : List Bool) (f next r : ℕ) → ((k : ℕ) → next ≤ k → k < f → get_or occ k false ≡ false) → r < next → ((k : ℕ) → k < r → get_or occ k false ≡ false) → get_or occ r false ≡ true → r ≡ round_taken occ f next
-unfolding around round_taken
-turn_sooner occ f next r empty h before held =
-    sym
-    (none_at occ f next (f - next) (span 0 next) (λ k a b. empty k a (omega arith))
-    ∙ ap (first_held occ f) (sym (append-nil (span 0 next)))
-    ∙ found_at occ f 0 next r [] (omega arith) (omega arith) (λ k a b. before k b) held)
-
--- or none
-pub turn_none : (occ : List Bool) (f next : ℕ) → ((k : ℕ) → next ≤ k → k < f → get_or occ k false ≡ false) → ((k : ℕ) → k < next → get_or occ k false ≡ false) → f ≡ round_taken occ f next
+-- what round robin takes is an answer
+pub round_answer : (occ : List Bool) (f next : ℕ) → next ≤ f → Answer occ f (round_taken occ f next)
 unfolding around round_taken first_held
-turn_none occ f next empty before =
-    sym
-    (none_at occ f next (f - next) (span 0 next) (λ k a b. empty k a (omega arith))
-    ∙ ap (first_held occ f) (sym (append-nil (span 0 next)))
-    ∙ none_at occ f 0 next [] (λ k a b. before k (omega arith)))
+round_answer occ f next w =
+    let r : ℕ = round_taken occ f next in
+    ⊎_elim
+    (λ (h : Here occ next (f - next) r). record { within = omega (arith, h.below); found = λ l. h.held; none = λ e. absurd (omega (arith, h.below)) })
+    (λ (h : Empty occ next (f - next) × (r ≡ first_held occ f (span 0 next))).
+    ⊎_elim
+    (λ (g : Here occ 0 next r). record { within = omega (arith, g.below); found = λ l. g.held; none = λ e. absurd (omega (arith, g.below)) })
+    (λ (g : Empty occ 0 next × (r ≡ first_held occ f [])). record {
+      within = omega (arith, g.1);
+      found = λ l. absurd (omega (arith, g.1));
+      none = λ e k l. ⊎_elim (λ (m : k < next). g.0 k (omega arith) (omega arith)) (λ (m : next ≤ k). h.0 k m (omega arith)) (cases_lt k next);
+    })
+    (first_at occ f 0 next [] r (h.1 ∙ ap (first_held occ f) (sym (append-nil (span 0 next))))))
+    (first_at occ f next (f - next) (span 0 next) r refl)
+
+-- a search finds what round robin takes
+
+span_is : (k n : ℕ) → span k n ≡ range_with_len k n
+unfolding span
+span_is k zero = refl
+span_is k (suc n) = let e : suc k ≡ k + 1 = omega arith in ap (λ ks. k ∷ ks) (span_is (suc k) n ∙ ap (λ j. range_with_len j n) e)
+
+first_is : (occ : List Bool) (none : ℕ) (ks : List ℕ) → unwrap_or (find (λ k. get_or occ k false) ks) none ≡ first_held occ none ks
+unfolding first_held
+first_is occ none [] = refl
+first_is occ none (k ∷ ks) =
+    ⊎_elim
+    (λ (held : get_or occ k false ≡ true). rw held refl)
+    (λ (free : get_or occ k false ≡ false). rw free (first_is occ none ks))
+    (cases_Bool (get_or occ k false))
+
+same_or : (r : Option ℕ) (none : ℕ) → unwrap_or r none ≡ unwrap_or (option_map (λ k. k) r) none
+same_or None none = refl
+same_or (Some k) none = refl
+
+pub round_is : (occ : List Bool) (f next : ℕ) (r : Option ℕ) → option_map (λ k. k) r ≡ find (λ k. get_or occ k false) (range_with_len next (f - next) ++ range_with_len 0 (next - 0)) → unwrap_or r f ≡ round_taken occ f next
+unfolding around round_taken
+round_is occ f next r e =
+    let z : next - 0 ≡ next = omega arith in
+    same_or r f
+    ∙ ap (λ (o : Option ℕ). unwrap_or o f) e
+    ∙ first_is occ f (range_with_len next (f - next) ++ range_with_len 0 (next - 0))
+    ∙ ap (λ m. first_held occ f (range_with_len next (f - next) ++ range_with_len 0 m)) z
+    ∙ ap (λ ks. first_held occ f (ks ++ range_with_len 0 next)) (sym (span_is next (f - next)))
+    ∙ ap (λ ks. first_held occ f (span next (f - next) ++ ks)) (sym (span_is 0 next))
 
 span_step : (k high : ℕ) (rest : List ℕ) → k < high → span k (high - k) ++ rest ≡ k ∷ (span (k + 1) (high - (k + 1)) ++ rest)
 unfolding span

@@ -5,7 +5,8 @@ pub mod picks;
 
 use crate::MOST_FRAMES;
 
-// Goes round as RoundRobin does, and passes a touched frame once. A frame past the most is never touched.
+// Goes round as RoundRobin does, and passes a touched frame once. A frame past the most is never touched. Its first two
+// fields are RoundRobin's too: one struct for them would stand in every clause that now names a field.
 #[derive(Clone, Copy)]
 pub struct SecondChance {
     frames: usize,
@@ -22,16 +23,8 @@ impl SecondChance {
         ensures next { result.next ≡ 0 }
         ensures touched { result.touched ≡ replicate 16 false }
     {
-        Self::started(0)
-    }
-
-    fn started(count: usize) -> Self
-        ensures frames { result.frames ≡ count }
-        ensures next { result.next ≡ 0 }
-        ensures touched { result.touched ≡ replicate 16 false }
-    {
         SecondChance {
-            frames: count,
+            frames: 0,
             next: 0,
             touched: [false; MOST_FRAMES],
         }

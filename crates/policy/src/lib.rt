@@ -34,7 +34,7 @@ pub trait Policy {
         ensures keeps { frames self.new ≡ frames self.old }
         ensures course { touches self.old frame self.new };
 
-    // The occupied frame to give up, or the number of frames if none is occupied.
+    // The occupied frame to give up, or the number of frames if none is occupied: this answer is fixed.
     fn victim(&mut self, occupied: &[bool]) -> usize
         ensures keeps { frames self.new ≡ frames self.old }
         ensures answer { Answer occupied.now (frames self.old) result }

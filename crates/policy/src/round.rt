@@ -18,16 +18,6 @@ impl RoundRobin {
         ensures frames { result.frames ≡ 0 }
         ensures next { result.next ≡ 0 }
     {
-        Self::started(0)
-    }
-
-    fn started(count: usize) -> Self
-        ensures frames { result.frames ≡ count }
-        ensures next { result.next ≡ 0 }
-    {
-        RoundRobin {
-            frames: count,
-            next: 0,
-        }
+        RoundRobin { frames: 0, next: 0 }
     }
 }

@@ -4,9 +4,9 @@ ghost use Rattle.policy.specs.Answers.{Answer};
 ghost use Rattle.policy.specs.Turns.{following, marked};
 ghost use Rattle.policy.specs.Picks.{ChancePicks, ChanceTouches};
 
-use crate::Policy;
 use crate::chance::SecondChance;
 use crate::scan::{onward, put, second_turn};
+use crate::{MOST_FRAMES, Policy};
 
 impl Policy for SecondChance {
     ghost frames = { λ p. p.frames };
@@ -22,7 +22,11 @@ impl Policy for SecondChance {
         ensures starts { self.new.next ≡ following count (count - 1) }
         ensures touched { self.new.touched ≡ replicate 16 false }
     {
-        *self = SecondChance::started(count);
+        *self = SecondChance {
+            frames: count,
+            next: 0,
+            touched: [false; MOST_FRAMES],
+        };
     }
 
     fn touch(&mut self, frame: usize)
@@ -45,6 +49,6 @@ impl Policy for SecondChance {
         let next = self.next;
         let taken = second_turn(&mut self.touched, occupied, frames, next);
         self.next = onward(frames, next, taken);
-        taken
+        taken.unwrap_or(frames)
     }
 }

@@ -32,7 +32,10 @@ impl Policy for RoundRobin {
         ensures next { self.new.next ≡ 0 }
         ensures starts { self.new.next ≡ following count (count - 1) }
     {
-        *self = RoundRobin::started(count);
+        *self = RoundRobin {
+            frames: count,
+            next: 0,
+        };
     }
 
     fn touch(&mut self, frame: usize)
@@ -50,6 +53,6 @@ impl Policy for RoundRobin {
     {
         let taken = turn(occupied, self.frames, self.next);
         self.next = onward(self.frames, self.next, taken);
-        taken
+        taken.unwrap_or(self.frames)
     }
 }

@@ -1,29 +1,22 @@
-use Rattle.std.proofs.Common.{arith, rules}
-use Rattle.policy.proofs.Walking.{turn_later, turn_sooner, turn_none}
+use Rattle.std.proofs.Common.{◌-◌, false, get_or, refl, sym, subst, rules}
+use Rattle.std.proofs.lemmas.Iterator.{YieldsList-from_range}
+use Rattle.std.proofs.lemmas.Iterator.Consumers.{YieldsList-from_chain}
+use Rattle.std.proofs.lemmas.Iterator.Search.{find_from_yields_List}
+use Rattle.policy.specs.Answers.{Answer}
+use Rattle.policy.proofs.Walking.{round_answer, round_is}
 use Rattle.policy.proofs.scan.turn.Goals as goal
+use borrow.Author.Tests.{tests}
 
-pub returns-then-later-frames : goal.returns-then-later-frames
-returns-then-later-frames c =
-    let a = c.first-later.ensures in
-    record {
-      answer = search rules;
-      exact = turn_later c.args.occupied.now c.args.frames c.args.next c.first-later.result a.above c.if-later-frames.true a.before (a.found c.if-later-frames.true);
-    }
+exact : goal.returns-clause-exact
+exact c =
+    round_is c.args.occupied.now c.args.frames c.args.next c.find.result
+    (find_from_yields_List (λ k. get_or c.args.occupied.now k false) _ _ c.find.result c.find.ensures.ran
+    (YieldsList-from_chain (YieldsList-from_range c.args.next c.args.frames (c.args.frames - c.args.next) (cc) refl) (YieldsList-from_range 0 c.args.next (c.args.next - 0) (cc) refl) (cc) (cc))
+    (λ x b q k. search (rules, tests)))
 
-pub returns-then-sooner-next : goal.returns-then-sooner-next
-returns-then-sooner-next c =
-    let a = c.first-later.ensures in
-    let b = c.first-sooner.ensures in
-    record {
-      answer = search rules;
-      exact = turn_sooner c.args.occupied.now c.args.frames c.args.next c.first-sooner.result (λ k l h. a.before k l (omega arith)) c.if-sooner-next.true (λ k h. b.before k (omega arith) h) (b.found c.if-sooner-next.true);
-    }
+pub returns-clause-answer : goal.returns-clause-answer
+returns-clause-answer c =
+    subst (λ r. Answer c.args.occupied.now c.args.frames r) (sym (exact c)) (round_answer c.args.occupied.now c.args.frames c.args.next c.requires)
 
-pub returns : goal.returns
-returns c =
-    let a = c.first-later.ensures in
-    let b = c.first-sooner.ensures in
-    record {
-      answer = search rules;
-      exact = turn_none c.args.occupied.now c.args.frames c.args.next (λ k l h. a.before k l (omega arith)) (λ k h. b.before k (omega arith) (omega arith));
-    }
+pub returns-clause-exact : goal.returns-clause-exact
+returns-clause-exact c = exact c
