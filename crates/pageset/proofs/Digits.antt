@@ -1,8 +1,9 @@
 -- The bits of a word. Assumes nothing.
-use Rattle.std.proofs.Common.{◌≡◌, ℕ, zero, suc, ◌+◌, ◌/◌, ◌%◌, ◌^◌, ◌<◌, ◌≤◌, Bool, true, false, cond, not, ◌&&◌, ◌||◌, eqb, ◌≢◌, sym, refl, ◌∙◌, ⊎_elim, add-one, one-add, arith}
-use lib.Bits.{bit_or, bit_xor, bit_and}
+use Rattle.std.proofs.Common.{◌≡◌, ℕ, zero, suc, ◌+◌, ◌-◌, ◌/◌, ◌%◌, ◌^◌, ◌<◌, ◌≤◌, Bool, true, false, cond, not, ◌&&◌, ◌||◌, eqb, ◌≢◌, sym, refl, ◌∙◌, ⊎_elim, add-one, one-add, min, max, w64, arith}
+use lib.Bits.{bit_or, bit_and}
 use lib.Count.{ones, count_trailing_zeros, ones_step}
-use Rattle.std.proofs.lemmas.Nat.{shr-shr, or_shr, or_mod, xor_shr, xor_mod, and_shr, and_mod, shr_below}
+use Rattle.std.proofs.lemmas.Nat.{shr-shr, shr_below, and_le_l}
+use Rattle.std.proofs.lemmas.Nat.Bits.{bit_at_and, bit_at_or, bit_at_not}
 use Rattle.std.proofs.lemmas.Bool.{cases_eq, eq-eqb, ne_eqb}
 use Rattle.std.proofs.lemmas.Bool.Decides.{nat_tests}
 use Rattle.pageset.specs.Sets.{bit}
@@ -67,7 +68,7 @@ ones_count (suc d) w h =
     omega (arith, i, s, b, g)
 
 -- the bits of either word
-either : (x y : ℕ) → x < 2 → y < 2 → eqb (bit_or x y) 1 ≡ (eqb x 1 || eqb y 1)
+either : (x y : ℕ) → x < 2 → y < 2 → eqb (max x y) 1 ≡ (eqb x 1 || eqb y 1)
 either zero zero p q = refl
 either zero (suc zero) p q = refl
 either (suc zero) zero p q = refl
@@ -78,7 +79,7 @@ either (suc zero) (suc (suc y)) p q = absurd (omega arith)
 
 pub bit_or_lem : (v w k : ℕ) → bit (bit_or v w) k ≡ (bit v k || bit w k)
 unfolding bit
-bit_or_lem v w k = rw (or_shr v w k, or_mod (v / 2 ^ k) (w / 2 ^ k) 1) (either (v / 2 ^ k % 2) (w / 2 ^ k % 2) (omega arith) (omega arith))
+bit_or_lem v w k = rw (bit_at_or v w k) (either (v / 2 ^ k % 2) (w / 2 ^ k % 2) (omega arith) (omega arith))
 
 half_pow : (j : ℕ) → 2 ^ suc j / 2 ≡ 2 ^ j
 half_pow j = omega arith
@@ -119,7 +120,7 @@ tz_hit (suc d) w p h = ⊎_elim
     (cases_eq (w % 2) 0)
 
 -- the bits of one word that are not in another
-one_less : (x y : ℕ) → x < 2 → y < 2 → eqb (bit_xor x (bit_and x y)) 1 ≡ (eqb x 1 && not (eqb y 1))
+one_less : (x y : ℕ) → x < 2 → y < 2 → eqb (min x (1 - y)) 1 ≡ (eqb x 1 && not (eqb y 1))
 one_less zero zero p q = refl
 one_less zero (suc zero) p q = refl
 one_less (suc zero) zero p q = refl
@@ -128,8 +129,15 @@ one_less (suc (suc x)) y p q = absurd (omega arith)
 one_less zero (suc (suc y)) p q = absurd (omega arith)
 one_less (suc zero) (suc (suc y)) p q = absurd (omega arith)
 
-pub bit_less : (v w k : ℕ) → bit (bit_xor v (bit_and v w)) k ≡ (bit v k && not (bit w k))
+-- v without the bits of w, as the program writes it
+abbrev pub less : ℕ → ℕ → ℕ
+less v w = bit_and v (18446744073709551615 - w)
+
+pub bit_less : (v w k : ℕ) → w < 2 ^ 64 → k < 64 → bit (less v w) k ≡ (bit v k && not (bit w k))
 unfolding bit
-bit_less v w k =
-    rw (xor_shr v (bit_and v w) k, and_shr v w k, xor_mod (v / 2 ^ k) (bit_and (v / 2 ^ k) (w / 2 ^ k)) 1, and_mod (v / 2 ^ k) (w / 2 ^ k) 1)
+bit_less v w k h l =
+    rw (bit_at_and v (18446744073709551615 - w) k, bit_at_not w64 w k h l)
     (one_less (v / 2 ^ k % 2) (w / 2 ^ k % 2) (omega arith) (omega arith))
+
+pub less_lt : (v w : ℕ) → v < 2 ^ 64 → w < 2 ^ 64 → less v w < 2 ^ 64
+less_lt v w h l = omega (arith, and_le_l v (18446744073709551615 - w))

@@ -1,12 +1,18 @@
 -- The pages of a set of words. Assumes nothing.
-use Rattle.std.proofs.Common.{◌≡◌, ℕ, zero, suc, ◌+◌, ◌-◌, ◌*◌, ◌/◌, ◌%◌, ◌^◌, ◌<◌, ◌≤◌, Bool, true, false, not, ◌&&◌, ◌||◌, ◌≢◌, List, [], ◌∷◌, length, get_or, set, sym, refl, ap, ◌∙◌, subst, ⊎_elim, arith, get_or-set_other, get_or-set_same}
-use lib.Bits.{bit_or, bit_xor, bit_and}
+use Rattle.std.proofs.Common.{◌≡◌, ℕ, zero, suc, ◌+◌, ◌-◌, ◌*◌, ◌/◌, ◌%◌, ◌^◌, ◌<◌, ◌≤◌, Bool, true, false, not, ◌||◌, ◌≢◌, List, [], ◌∷◌, length, get_or, take, drop, position, Some, None, map, sum, set, add-one, sym, refl, ap, ◌∙◌, subst, ⊎_elim, arith, get_or-set_other, get_or-set_same}
+use lib.Bits.{bit_or}
 use lib.Count.{ones, count_trailing_zeros}
-use Rattle.std.proofs.lemmas.Nat.{shr_le, xor_lt, and_le_l}
-use Rattle.std.proofs.lemmas.List.{get_or_past}
+use Rattle.std.proofs.lemmas.Nat.{shr_le}
+use Rattle.std.proofs.lemmas.List.{get_or_past, take_all, length-drop, get_or-drop}
+use Rattle.std.specs.List.{sum_by}
+use Rattle.std.proofs.lemmas.List.Sums.{sum_by_more, sum-map, sum_by-le, prefix_len_passes}
+use Rattle.std.proofs.lemmas.List.Quantifiers.{position-Some}
+use Rattle.std.proofs.lemmas.Bool.Decides.{nat_tests}
+use Rattle.std.proofs.lemmas.List.Elements.{All-from_get_or}
+use Rattle.std.proofs.lemmas.Nat.{ones-le}
 use Rattle.std.proofs.lemmas.Bool.{cases_lt, cases_eq, eq-eqb, ne_eqb, both_ways, or_right}
-use Rattle.pageset.specs.Sets.{bit, bit_at, holds, tally, Words}
-use Rattle.pageset.proofs.Digits.{bit_shr, bit_none, bit_high, bit_or_lem, bit_less, bit_pow, tz_low, tz_hit, count, ones_count}
+use Rattle.pageset.specs.Sets.{bit, bit_at, holds, tally, Words, FirstAfter, used}
+use Rattle.pageset.proofs.Digits.{bit_shr, bit_none, bit_high, bit_or_lem, bit_pow, tz_low, tz_hit, count, ones_count}
 
 -- page n is bit n - 1
 pub holds_suc : (ws : List ℕ) (k : ℕ) → holds ws (suc k) ≡ bit (get_or ws (k / 64) 0) (k % 64)
@@ -35,10 +41,26 @@ pub holds_none : (ws : List ℕ) (n : ℕ) → ((k : ℕ) → get_or ws k 0 ≡ 
 holds_none ws zero h = holds_zero ws
 holds_none ws (suc k) h = holds_suc ws k ∙ rw (h (k / 64)) (bit_none (k % 64))
 
--- the pages of either
-pub holds_or : (vs ws us : List ℕ) (n : ℕ) → ((k : ℕ) → get_or us k 0 ≡ bit_or (get_or vs k 0) (get_or ws k 0)) → holds us n ≡ (holds vs n || holds ws n)
-holds_or vs ws us zero h = rw (holds_zero vs, holds_zero ws, holds_zero us) refl
-holds_or vs ws us (suc k) h = rw (holds_suc vs k, holds_suc ws k, holds_suc us k, h (k / 64)) (bit_or_lem (get_or vs (k / 64) 0) (get_or ws (k / 64) 0) (k % 64))
+-- words made one by one of those of two sets, whose pages then are made of the pages
+module _
+    (op : ℕ → ℕ → ℕ) (b : Bool → Bool → Bool) (nothing : b false false ≡ false)
+    (bits : (v w k : ℕ) → w < 2 ^ 64 → k < 64 → bit (op v w) k ≡ b (bit v k) (bit w k))
+    (fits : (v w : ℕ) → v < 2 ^ 64 → w < 2 ^ 64 → op v w < 2 ^ 64)
+    (vs ws us : List ℕ) (vl : length vs ≡ 16) (wl : length ws ≡ 16) (ul : length us ≡ 16) (vh : Words vs) (wh : Words ws)
+    (each : (k d : ℕ) → k < 16 → get_or us k d ≡ op (get_or vs k 0) (get_or ws k 0))
+  where
+    pub holds_each : (n : ℕ) → holds us n ≡ b (holds vs n) (holds ws n)
+    holds_each zero = rw (holds_zero vs, holds_zero ws, holds_zero us, nothing) refl
+    holds_each (suc k) = ⊎_elim
+        (λ (h : k / 64 < 16). rw (holds_suc vs k, holds_suc ws k, holds_suc us k, each (k / 64) 0 h) (bits (get_or vs (k / 64) 0) (get_or ws (k / 64) 0) (k % 64) (wh (k / 64)) (omega arith)))
+        (λ (h : 16 ≤ k / 64). rw (holds_past vs (suc k) vl (omega arith), holds_past ws (suc k) wl (omega arith), holds_past us (suc k) ul (omega arith), nothing) refl)
+        (cases_lt (k / 64) 16)
+
+    pub words_each : Words us
+    words_each k = ⊎_elim
+        (λ (h : k < 16). rw (each k 0 h) (fits (get_or vs k 0) (get_or ws k 0) (vh k) (wh k)))
+        (λ (h : 16 ≤ k). rw (get_or_past us k 0 (omega arith)) (omega arith))
+        (cases_lt k 16)
 
 module _
     (ws : List ℕ) (k : ℕ) (long : length ws ≡ 16) (small : k < 1024)
@@ -138,23 +160,71 @@ module _
     pub nothing : v ≡ 0 → (n : ℕ) → 64 * i + j < n → n ≤ 64 * i + 64 → holds ws n ≡ false
     nothing z n q r = clear n q r (rw z (bit_none (n - (64 * i + j + 1))))
 
--- words joined one by one, past their end too
-pub joined : (vs ws us : List ℕ) → length vs ≡ 16 → length ws ≡ 16 → length us ≡ 16 → ((k : ℕ) → k < 16 → get_or us k 0 ≡ bit_or (get_or vs k 0) (get_or ws k 0)) → (k : ℕ) → get_or us k 0 ≡ bit_or (get_or vs k 0) (get_or ws k 0)
-joined vs ws us a b d h k = ⊎_elim
-    (λ (l : k < 16). h k l)
-    (λ (l : 16 ≤ k). rw (get_or_past vs k 0 (omega arith), get_or_past ws k 0 (omega arith), get_or_past us k 0 (omega arith)) refl)
-    (cases_lt k 16)
+-- the pages of the first words, counted word by word
+sum_part : (ws : List ℕ) (i : ℕ) → Words ws → i ≤ length ws → sum_by ones (take i ws) ≡ tally (holds ws) (64 * i)
+sum_part ws zero h l = sym (tally_none (holds ws))
+sum_part ws (suc i) h l =
+    let e = sum_by_more ones ws i 0 (omega arith) in
+    let b = sum_part ws i h (omega arith) in
+    rw (← add-one) (omega (arith, e, b, tally_word ws i (h i)))
 
--- the same for the bits that are not in another
-pub holds_less : (vs ws us : List ℕ) (n : ℕ) → ((k : ℕ) → get_or us k 0 ≡ bit_xor (get_or vs k 0) (bit_and (get_or vs k 0) (get_or ws k 0))) → holds us n ≡ (holds vs n && not (holds ws n))
-holds_less vs ws us zero h = rw (holds_zero vs, holds_zero us) refl
-holds_less vs ws us (suc k) h = rw (holds_suc vs k, holds_suc ws k, holds_suc us k, h (k / 64)) (bit_less (get_or vs (k / 64) 0) (get_or ws (k / 64) 0) (k % 64))
+pub sum_ones : (ws : List ℕ) → length ws ≡ 16 → Words ws → sum (map ones ws) ≡ tally (holds ws) 1024
+sum_ones ws l h =
+    let b = sum_part ws 16 h (omega arith) in
+    sum-map ones ws ∙ rw (take_all 16 ws (omega arith)) at b
 
-pub lessened : (vs ws us : List ℕ) → length vs ≡ 16 → length ws ≡ 16 → length us ≡ 16 → ((k : ℕ) → k < 16 → get_or us k 0 ≡ bit_xor (get_or vs k 0) (bit_and (get_or vs k 0) (get_or ws k 0))) → (k : ℕ) → get_or us k 0 ≡ bit_xor (get_or vs k 0) (bit_and (get_or vs k 0) (get_or ws k 0))
-lessened vs ws us a b d h k = ⊎_elim
-    (λ (l : k < 16). h k l)
-    (λ (l : 16 ≤ k). rw (get_or_past vs k 0 (omega arith), get_or_past us k 0 (omega arith)) refl)
-    (cases_lt k 16)
+-- no word has more than 64
+pub sum_ones_few : (ws : List ℕ) → length ws ≡ 16 → Words ws → sum (map ones ws) < 2 ^ 32
+sum_ones_few ws l h =
+    let b = sum_by-le ones 64 ws (All-from_get_or (λ x. ones x ≤ 64) ws 0 (λ i q. ones-le 64 (get_or ws i 0) (h i))) in
+    rw (sum-map ones ws) (omega (arith, b))
 
-pub less_lt : (v w : ℕ) → v < 2 ^ 64 → bit_xor v (bit_and v w) < 2 ^ 64
-less_lt v w h = xor_lt 64 v (bit_and v w) h (omega (arith, and_le_l v w))
+-- the first page after page 64 * i + j, where v has the bits of word i from bit j on
+module _
+    (ws : List ℕ) (i j v : ℕ) (word : get_or ws i 0 < 2 ^ 64) (e : v ≡ get_or ws i 0 / 2 ^ j) (inside : j < 64) (some : 0 < v) (low : i < 16)
+  where
+    pub first_after : FirstAfter (holds ws) (64 * i + j) (64 * i + j + 1 + count_trailing_zeros 64 v)
+    first_after =
+        let h = hit_inside ws i j v word e inside some in
+        record { above = omega arith; most = omega (arith, h); between = before ws i j v word e inside some; hit = hit ws i j v word e inside some }
+
+-- the pages of words that are zero
+pub empty_words : (ws : List ℕ) (a b : ℕ) → ((k : ℕ) → a ≤ k → k < b → get_or ws k 0 ≡ 0) → (n : ℕ) → 64 * a < n → n ≤ 64 * b → holds ws n ≡ false
+empty_words ws a b z n p q = holds_at ws n (omega arith) ∙ rw (z ((n - 1) / 64) (omega arith) (omega arith)) (bit_none ((n - 1) % 64))
+
+-- no element passes where no position is found
+position_none : {X : Type 0} (p : X → Bool) (xs : List X) → position p xs ≡ None → (k : ℕ) (d : X) → k < length xs → p (get_or xs k d) ≡ false
+position_none p xs e k d h = grind (arith, prefix_len_passes (λ x. not (p x)) xs k d)
+
+used_true : (w : ℕ) → used w ≡ true → 0 < w
+used_true w h = grind (arith, nat_tests)
+
+used_false : (w : ℕ) → used w ≡ false → w ≡ 0
+used_false w h = grind (arith, nat_tests)
+
+module _
+    (ws : List ℕ) (a : ℕ) (long : length ws ≡ 16) (low : a ≤ 16)
+  where
+    -- the words from word a on
+    abbrev pub rest : List ℕ
+    rest = take (16 - a) (drop a ws)
+
+    rest_at : (k : ℕ) → a ≤ k → get_or rest (k - a) 0 ≡ get_or ws k 0
+    rest_at k h =
+        let e : a + (k - a) ≡ k = omega arith in
+        ap (λ l. get_or l (k - a) 0) (take_all (16 - a) (drop a ws) (omega (arith, length-drop a ws))) ∙ get_or-drop a ws (k - a) 0 ∙ ap (λ i. get_or ws i 0) e
+
+    length_rest : length rest ≡ 16 - a
+    length_rest = ap length (take_all (16 - a) (drop a ws) (omega (arith, length-drop a ws))) ∙ omega (arith, length-drop a ws)
+
+    pub none_used : position used rest ≡ None → (k : ℕ) → a ≤ k → k < 16 → get_or ws k 0 ≡ 0
+    none_used e k h l = used_false (get_or ws k 0) (sym (ap used (rest_at k h)) ∙ position_none used rest e (k - a) 0 (omega (arith, length_rest)))
+
+    pub some_used : (i : ℕ) → position used rest ≡ Some i → (a + i < 16) × (0 < get_or ws (a + i) 0) × ((k : ℕ) → a ≤ k → k < a + i → get_or ws k 0 ≡ 0)
+    some_used i e =
+        let h = position-Some used rest i 0 e in
+        let s : a + i - a ≡ i = omega arith in (
+          omega (arith, h, length_rest),
+          used_true (get_or ws (a + i) 0) (sym (ap used (rw s at (rest_at (a + i) (omega arith)))) ∙ h.1),
+          λ k p q. used_false (get_or ws k 0) (sym (ap used (rest_at k p)) ∙ h.2 (k - a) (omega arith)),
+        )

@@ -1,15 +1,32 @@
 // Sets of the pages 1 to 1024.
 #![tactic(auto)]
 
-ghost use Rattle.std.specs.Prelude.{◌≡◌, ℕ, ◌+◌, ◌-◌, ◌<◌, ◌≤◌, true, false, not, ◌&&◌, ◌||◌, length, ◌≢◌};
-ghost use Rattle.pageset.specs.Sets.{holds, tally, Words};
+ghost use Rattle.std.specs.Prelude.{◌≡◌, ℕ, ◌+◌, ◌-◌, ◌<◌, ◌≤◌, true, false, not, ◌&&◌, ◌||◌, length, count_ones, position, MatchOption, ◌≢◌};
+ghost use Rattle.pageset.specs.Sets.{holds, tally, Words, used, NoneAfter, FirstAfter};
+
+use std::array;
 
 // A set of pages.
-#[derive(Clone, Copy)]
+#[derive(Clone, Copy, Debug, PartialEq, Eq)]
 pub struct PageSet {
     words: [u64; 16],
     ghost sized: { length words ≡ 16 },
     ghost bits: { Words words },
+}
+
+// How many bits of a word are set.
+fn ones(word: u64) -> u32
+    ensures value { result ≡ count_ones word }
+    ensures few { result ≤ 64 }
+{
+    word.count_ones()
+}
+
+// The first word that has a page.
+fn first_used(words: &[u64]) -> Option<usize>
+    ensures { result ≡ position used words.now }
+{
+    words.iter().position(|word| *word != 0)
 }
 
 impl PageSet {
@@ -47,56 +64,40 @@ impl PageSet {
     pub fn union(&self, other: &PageSet) -> Self
         ensures { (n : ℕ) → holds result.words n ≡ (holds self.now.words n || holds other.now.words n) }
     {
-        let mut words = self.words;
-        for i in 0..16usize {
-            words[i] |= other.words[i];
+        PageSet {
+            words: array::from_fn(|i| self.words[i] | other.words[i]),
         }
-        PageSet { words }
     }
 
     // The pages of this set that are not in the other.
     pub fn minus(&self, other: &PageSet) -> Self
         ensures { (n : ℕ) → holds result.words n ≡ (holds self.now.words n && not (holds other.now.words n)) }
     {
-        let mut words = self.words;
-        for i in 0..16usize {
-            words[i] ^= self.words[i] & other.words[i];
+        PageSet {
+            words: array::from_fn(|i| self.words[i] & !other.words[i]),
         }
-        PageSet { words }
     }
 
     // How many pages are in the set.
     pub fn count(&self) -> u32
         ensures { result ≡ tally (holds self.now.words) 1024 }
     {
-        let mut c: u32 = 0;
-        for i in 0..16usize {
-            c += self.words[i].count_ones();
-        }
-        c
+        self.words.iter().map(|word| ones(*word)).sum()
     }
 
-    // The first page of the set above a page, or 1025.
-    pub fn after(&self, page: u16) -> u16
-        ensures past { page ≤ 1024 → page < result }
-        ensures most { result ≤ 1025 }
-        ensures between { (n : ℕ) → page < n → n < result → holds self.now.words n ≡ false }
-        ensures hit { result ≤ 1024 → holds self.now.words result ≡ true }
+    // The first page of the set above a page.
+    pub fn after(&self, page: u16) -> Option<u16>
+        ensures { MatchOption result (NoneAfter (holds self.now.words) page) (FirstAfter (holds self.now.words) page) }
     {
         if page >= 1024 {
-            return 1025;
+            return None;
         }
         let first = page as usize / 64;
         let rest = self.words[first] >> (page % 64);
         if rest != 0 {
-            return page + 1 + rest.trailing_zeros() as u16;
+            return Some(page + 1 + rest.trailing_zeros() as u16);
         }
-        for i in first + 1..16 {
-            let word = self.words[i];
-            if word != 0 {
-                return i as u16 * 64 + 1 + word.trailing_zeros() as u16;
-            }
-        }
-        1025
+        let i = first + 1 + first_used(&self.words[first + 1..])?;
+        Some(i as u16 * 64 + 1 + self.words[i].trailing_zeros() as u16)
     }
 }

@@ -1,9 +1,12 @@
-use Rattle.std.proofs.Common.{◌≡◌, ℕ, ◌+◌, ◌*◌, ◌/◌, ◌%◌, ◌^◌, ◌<◌, ◌≤◌, true, get_or, refl, subst, ⊎_elim, arith}
+use Rattle.std.proofs.Common.{◌≡◌, ℕ, ◌+◌, ◌*◌, ◌/◌, ◌%◌, ◌^◌, ◌<◌, ◌≤◌, get_or, refl, sym, subst, ⊎_elim, arith}
 use lib.Count.{count_trailing_zeros}
 use Rattle.std.proofs.lemmas.Bool.{cases_lt}
-use Rattle.pageset.specs.Sets.{holds}
-use Rattle.pageset.proofs.Members.{hit, hit_inside, before, nothing, whole}
+use Rattle.pageset.specs.Sets.{holds, FirstAfter}
+use Rattle.pageset.proofs.Members.{holds_past, first_after, nothing, empty_words, whole, none_used, some_used}
 use Rattle.pageset.proofs.PageSet.after.Goals as goal
+
+pub returns-then-page-ge1024 : goal.returns-then-page-ge1024
+returns-then-page-ge1024 c m h = holds_past c.args.self.now.words m c.args.self.now.sized (omega arith)
 
 pub returns-then-rest-ne0 : goal.returns-then-rest-ne0
 returns-then-rest-ne0 c =
@@ -12,50 +15,44 @@ returns-then-rest-ne0 c =
     let i = p / 64 in
     let j = p % 64 in
     let v = get_or t.words i 0 / 2 ^ j in
-    let some : 0 < v = omega (arith, c.if-rest-ne0.true) in
-    let small : j < 64 = omega arith in
     let e : 64 * i + j ≡ p = omega arith in
-    let inside = hit_inside t.words i j v (t.bits i) refl small some in
-    record {
-      past = λ _. omega arith;
-      most = omega (arith, inside);
-      between = λ n a b. before t.words i j v (t.bits i) refl small some n (omega arith) (omega arith);
-      hit = λ _. subst (λ (m : ℕ). holds t.words (m + 1 + count_trailing_zeros 64 v) ≡ true) e (hit t.words i j v (t.bits i) refl small some);
-    }
+    subst (λ (n : ℕ). FirstAfter (holds t.words) n (n + 1 + count_trailing_zeros 64 v)) e (first_after t.words i j v (t.bits i) refl (omega arith) (omega (arith, c.if-rest-ne0.true)) (omega arith))
 
-pub loop-i-init : goal.loop-i-init
-loop-i-init c =
+pub returns-in_err-i : goal.returns-in_err-i
+returns-in_err-i c =
     let t = c.args.self.now in
     let p = c.args.page in
     let i = p / 64 in
     let j = p % 64 in
     let v = get_or t.words i 0 / 2 ^ j in
-    λ n a b. nothing t.words i j v (t.bits i) refl (omega arith) (omega (arith, c.if-rest-ne0.false)) n (omega arith) (omega arith)
+    rw c.from_residual.ensures (λ n a. ⊎_elim
+    (λ (l : 64 * (i + 1) < n). ⊎_elim
+    (λ (h : 1024 < n). holds_past t.words n t.sized h)
+    (λ (h : n ≤ 1024). empty_words t.words (i + 1) 16 (none_used t.words (i + 1) t.sized (omega arith) (sym c.in_err-i.ensures)) n l h)
+    (cases_lt 1024 n))
+    (λ (l : n ≤ 64 * (i + 1)). nothing t.words i j v (t.bits i) refl (omega arith) (omega (arith, c.if-rest-ne0.false)) n (omega arith) (omega arith))
+    (cases_lt (64 * (i + 1)) n))
 
-pub returns-then-word-ne0 : goal.returns-then-word-ne0
-returns-then-word-ne0 c =
+pub returns : goal.returns
+returns c =
     let t = c.args.self.now in
-    let i = c.loop-i.i in
-    let v = get_or t.words i 0 in
-    let some : 0 < v = omega (arith, c.if-word-ne0.true) in
-    let e : 64 * i + 0 + 1 + count_trailing_zeros 64 v ≡ i * 64 + 1 + count_trailing_zeros 64 v = omega arith in
-    let inside = hit_inside t.words i 0 v (t.bits i) (whole v) (omega arith) some in
+    let p = c.args.page in
+    let i = p / 64 in
+    let j = p % 64 in
+    let v = get_or t.words i 0 / 2 ^ j in
+    let more = some_used t.words (i + 1) t.sized (omega arith) c.in_ok-i.field-0 (sym c.in_ok-i.ensures) in
+    let k = i + 1 + c.in_ok-i.field-0 in
+    let w = get_or t.words k 0 in
+    let f = first_after t.words k 0 w (t.bits k) (whole w) (omega arith) more.1 more.0 in
     record {
-      past = λ _. omega (arith, c.loop-i.auto.i);
-      most = omega (arith, inside);
+      above = omega arith;
+      most = omega (arith, f.most);
       between = λ n a b. ⊎_elim
-          (λ (l : 64 * i < n). before t.words i 0 v (t.bits i) (whole v) (omega arith) some n (omega arith) (omega arith))
-          (λ (l : n ≤ 64 * i). c.loop-i.invariant n a l)
-          (cases_lt (64 * i) n);
-      hit = λ _. subst (λ (m : ℕ). holds t.words m ≡ true) e (hit t.words i 0 v (t.bits i) (whole v) (omega arith) some);
+          (λ (l : 64 * (i + 1) < n). ⊎_elim
+          (λ (h : 64 * k < n). f.between n (omega arith) (omega arith))
+          (λ (h : n ≤ 64 * k). empty_words t.words (i + 1) k more.2 n l h)
+          (cases_lt (64 * k) n))
+          (λ (l : n ≤ 64 * (i + 1)). nothing t.words i j v (t.bits i) refl (omega arith) (omega (arith, c.if-rest-ne0.false)) n (omega arith) (omega arith))
+          (cases_lt (64 * (i + 1)) n);
+      hit = let e : 64 * k + 0 + 1 + count_trailing_zeros 64 w ≡ k * 64 + 1 + count_trailing_zeros 64 w = omega arith in rw e at f.hit;
     }
-
-pub loop-i-preserved : goal.loop-i-preserved
-loop-i-preserved c =
-    let t = c.args.self.now in
-    let i = c.loop-i.i in
-    let v = get_or t.words i 0 in
-    λ n a b. ⊎_elim
-    (λ (l : 64 * i < n). nothing t.words i 0 v (t.bits i) (whole v) (omega arith) (omega (arith, c.if-word-ne0.false)) n (omega arith) (omega arith))
-    (λ (l : n ≤ 64 * i). c.loop-i.invariant n a l)
-    (cases_lt (64 * i) n)

@@ -1,21 +1,15 @@
-use Rattle.std.proofs.Common.{get_or, sym, arith}
-use Rattle.std.proofs.lemmas.Nat.{ones-le}
-use Rattle.pageset.specs.Sets.{holds}
-use Rattle.pageset.proofs.Members.{tally_none, tally_word}
+use Rattle.std.proofs.Common.{◌≡◌, arith, rules, map, sum, ◌∙◌}
+use lib.Count.{ones}
+use Rattle.std.proofs.iter.runs.Made.{chains}
+use Rattle.std.proofs.lemmas.Iterator.{YieldsList-from_slice}
+use Rattle.std.proofs.lemmas.Iterator.Adapters.{fits_from_length, at_most_from_yields_List}
+use Rattle.pageset.proofs.Members.{sum_ones}
 use Rattle.pageset.proofs.PageSet.count.Goals as goal
 
-pub loop-i-init : goal.loop-i-init
-loop-i-init c = (sym (tally_none (holds c.args.self.now.words)), omega arith)
+pub sum-requires-clause-fits : goal.sum-requires-clause-fits
+sum-requires-clause-fits c = fits_from_length _ _ 16 _ (at_most_from_yields_List (YieldsList-from_slice c.args.self.now.words cc) (grind arith)) c.map.ensures.closure (omega arith) (λ x r q k. search rules)
 
-pub overflow_add-c : goal.overflow_add-c
-overflow_add-c c =
-    let o = ones-le 64 (get_or c.args.self.now.words c.loop-i.i 0) (c.args.self.now.bits c.loop-i.i) in
-    omega (arith, o, c.loop-i.invariant)
-
-pub loop-i-preserved : goal.loop-i-preserved
-loop-i-preserved c =
-    let ws = c.args.self.now.words in
-    let w = c.args.self.now.bits c.loop-i.i in
-    let o = ones-le 64 (get_or ws c.loop-i.i 0) w in
-    let m = tally_word ws c.loop-i.i w in
-    (omega (arith, m, c.loop-i.invariant), omega (arith, o, c.loop-i.invariant))
+pub returns : goal.returns
+returns c =
+    let e : c.sum.result ≡ sum (map ones c.args.self.now.words) = search (rules, chains) in
+    e ∙ sum_ones c.args.self.now.words c.args.self.now.sized c.args.self.now.bits

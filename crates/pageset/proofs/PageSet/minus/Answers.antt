@@ -1,18 +1,21 @@
-use Rattle.std.proofs.Common.{get_or, arith}
-use Rattle.pageset.proofs.Members.{holds_less, lessened, less_lt}
+use Rattle.std.proofs.Common.{get_or, not, ◌&&◌, refl, rules}
+use Rattle.pageset.proofs.Digits.{less, bit_less, less_lt}
+use Rattle.pageset.proofs.Filled.{filled}
+use Rattle.pageset.proofs.Members.{holds_each, words_each}
 use Rattle.pageset.proofs.PageSet.minus.Goals as goal
 
 pub invariant_of-result : goal.invariant_of-result
 invariant_of-result c =
     let s = c.args.self.now in
     let o = c.args.other.now in
-    let v = c.loop-i.invariant in
-    let all = lessened s.words o.words c.loop-i.words s.sized o.sized v.2 (λ k l. v.0 k (omega arith)) in
-    record { sized = v.2; bits = λ k. rw (all k) (less_lt (get_or s.words k 0) (get_or o.words k 0) (s.bits k)) }
+    let r = c.from_fn.ensures.items in
+    let each = filled _ (λ i. less (get_or s.words i 0) (get_or o.words i 0)) _ (λ i y q e. search rules) c.from_fn.result 16 r in
+    record { sized = r.long; bits = words_each less (λ x y. x && not y) refl bit_less less_lt s.words o.words c.from_fn.result s.sized o.sized r.long s.bits o.bits each }
 
 pub returns : goal.returns
-returns c n =
+returns c =
     let s = c.args.self.now in
     let o = c.args.other.now in
-    let v = c.loop-i.invariant in
-    holds_less s.words o.words c.loop-i.words n (lessened s.words o.words c.loop-i.words s.sized o.sized v.2 (λ k l. v.0 k (omega arith)))
+    let r = c.from_fn.ensures.items in
+    let each = filled _ (λ i. less (get_or s.words i 0) (get_or o.words i 0)) _ (λ i y q e. search rules) c.from_fn.result 16 r in
+    holds_each less (λ x y. x && not y) refl bit_less less_lt s.words o.words c.from_fn.result s.sized o.sized r.long s.bits o.bits each

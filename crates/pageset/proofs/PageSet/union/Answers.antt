@@ -1,19 +1,23 @@
-use Rattle.std.proofs.Common.{get_or, arith}
+use Rattle.std.proofs.Common.{get_or, ◌||◌, refl, rules}
+use lib.Bits.{bit_or}
 use Rattle.std.proofs.lemmas.Nat.{or_lt}
-use Rattle.pageset.proofs.Members.{holds_or, joined}
+use Rattle.pageset.proofs.Digits.{bit_or_lem}
+use Rattle.pageset.proofs.Filled.{filled}
+use Rattle.pageset.proofs.Members.{holds_each, words_each}
 use Rattle.pageset.proofs.PageSet.union.Goals as goal
 
 pub invariant_of-result : goal.invariant_of-result
 invariant_of-result c =
     let s = c.args.self.now in
     let o = c.args.other.now in
-    let v = c.loop-i.invariant in
-    let all = joined s.words o.words c.loop-i.words s.sized o.sized v.2 (λ k l. v.0 k (omega arith)) in
-    record { sized = v.2; bits = λ k. rw (all k) (or_lt 64 (get_or s.words k 0) (get_or o.words k 0) (s.bits k) (o.bits k)) }
+    let r = c.from_fn.ensures.items in
+    let each = filled _ (λ i. bit_or (get_or s.words i 0) (get_or o.words i 0)) _ (λ i y q e. search rules) c.from_fn.result 16 r in
+    record { sized = r.long; bits = words_each bit_or ◌||◌ refl (λ v w k h l. bit_or_lem v w k) (or_lt 64) s.words o.words c.from_fn.result s.sized o.sized r.long s.bits o.bits each }
 
 pub returns : goal.returns
-returns c n =
+returns c =
     let s = c.args.self.now in
     let o = c.args.other.now in
-    let v = c.loop-i.invariant in
-    holds_or s.words o.words c.loop-i.words n (joined s.words o.words c.loop-i.words s.sized o.sized v.2 (λ k l. v.0 k (omega arith)))
+    let r = c.from_fn.ensures.items in
+    let each = filled _ (λ i. bit_or (get_or s.words i 0) (get_or o.words i 0)) _ (λ i y q e. search rules) c.from_fn.result 16 r in
+    holds_each bit_or ◌||◌ refl (λ v w k h l. bit_or_lem v w k) (or_lt 64) s.words o.words c.from_fn.result s.sized o.sized r.long s.bits o.bits each
