@@ -1,12 +1,11 @@
 -- The bits of a word. Assumes nothing.
-use Rattle.std.proofs.Common.{◌≡◌, ℕ, zero, suc, ◌+◌, ◌-◌, ◌/◌, ◌%◌, ◌^◌, ◌<◌, ◌≤◌, Bool, true, false, cond, not, ◌&&◌, ◌||◌, eqb, ◌≢◌, sym, refl, ◌∙◌, ⊎_elim, add-one, one-add, min, max, w64, arith}
+use Rattle.std.proofs.Common.{◌≡◌, ℕ, zero, suc, ◌+◌, ◌-◌, ◌/◌, ◌%◌, ◌^◌, ◌<◌, ◌≤◌, Bool, true, false, cond, not, ◌&&◌, ◌||◌, eqb, ◌≢◌, sym, refl, add-one, one-add, ap, ◌*◌, min, max, w64, arith}
 use lib.Bits.{bit_or, bit_and}
 use lib.Count.{ones, count_trailing_zeros, ones_step}
 use Rattle.std.proofs.lemmas.Nat.{shr-shr, shr_below, and_le_l}
-use Rattle.std.proofs.lemmas.Nat.Bits.{bit_at_and, bit_at_or, bit_at_not}
-use Rattle.std.proofs.lemmas.Bool.{cases_eq, eq-eqb, ne_eqb}
+use Rattle.std.proofs.lemmas.Nat.Bits.{bit_at_and, bit_at_or, bit_at_not, bit_at_set_same, bit_at_set_other, bit_at_clear_same, bit_at_clear_other, bit_at-zero, bit_at_above, bit_at-trailing_zeros}
 use Rattle.std.proofs.lemmas.Bool.Decides.{nat_tests}
-use Rattle.pageset.specs.Sets.{bit}
+use Rattle.pageset.specs.Sets.{bit, used}
 
 -- bit j of a word without its first k bits
 pub bit_shr : (w k j : ℕ) → bit (w / 2 ^ k) j ≡ bit w (k + j)
@@ -21,17 +20,16 @@ unfolding bit
 bit_first w = let e : w / 1 ≡ w = omega arith in rw e refl
 
 pub bit_none : (k : ℕ) → bit 0 k ≡ false
-bit_none zero = bit_first 0
-bit_none (suc k) = bit_suc 0 k ∙ bit_none k
-
-half : (d w : ℕ) → w < 2 ^ suc d → w / 2 < 2 ^ d
-half d w h = shr_below w d 1 (rw add-one h)
+unfolding bit
+bit_none k = ap (λ b. eqb b 1) (bit_at-zero k)
 
 -- no bit past the width
 pub bit_high : (d w k : ℕ) → w < 2 ^ d → d ≤ k → bit w k ≡ false
-bit_high zero w k h l = let e : w ≡ 0 = omega arith in rw e (bit_none k)
-bit_high (suc d) w zero h l = absurd (omega arith)
-bit_high (suc d) w (suc k) h l = bit_suc w k ∙ bit_high d (w / 2) k (half d w h) (omega arith)
+unfolding bit
+bit_high d w k h l = ap (λ b. eqb b 1) (bit_at_above w d k h l)
+
+half : (d w : ℕ) → w < 2 ^ suc d → w / 2 < 2 ^ d
+half d w h = shr_below w d 1 (rw add-one h)
 
 -- how many of the bits below d pass
 unfoldable pub count : (ℕ → Bool) → ℕ → ℕ
@@ -81,43 +79,37 @@ pub bit_or_lem : (v w k : ℕ) → bit (bit_or v w) k ≡ (bit v k || bit w k)
 unfolding bit
 bit_or_lem v w k = rw (bit_at_or v w k) (either (v / 2 ^ k % 2) (w / 2 ^ k % 2) (omega arith) (omega arith))
 
-half_pow : (j : ℕ) → 2 ^ suc j / 2 ≡ 2 ^ j
-half_pow j = omega arith
+-- bit j put in and taken out, as the program does it
+abbrev pub with_bit : ℕ → ℕ → ℕ
+with_bit w j = bit_or w (1 * 2 ^ j % 2 ^ 64)
 
-eqb_suc : (j k : ℕ) → eqb j k ≡ eqb (suc j) (suc k)
-eqb_suc j k = ⊎_elim
-    (λ (e : j ≡ k). eq-eqb j k e ∙ sym (eq-eqb (suc j) (suc k) (omega arith)))
-    (λ (e : j ≢ k). ne_eqb j k e ∙ sym (ne_eqb (suc j) (suc k) (λ h. e (omega arith))))
-    (cases_eq j k)
+abbrev pub without_bit : ℕ → ℕ → ℕ
+without_bit w j = bit_and w (18446744073709551615 - 1 * 2 ^ j % 2 ^ 64)
 
--- the bits of a power of two
-pub bit_pow : (j k : ℕ) → bit (2 ^ j) k ≡ eqb j k
-bit_pow zero zero = bit_first 1
-bit_pow zero (suc k) = bit_suc 1 k ∙ bit_none k ∙ sym (ne_eqb 0 (suc k) (λ h. omega arith))
-bit_pow (suc j) zero = bit_first (2 ^ suc j) ∙ ne_eqb (2 ^ suc j % 2) 1 (λ h. omega arith) ∙ sym (ne_eqb (suc j) 0 (λ h. omega arith))
-bit_pow (suc j) (suc k) = bit_suc (2 ^ suc j) k ∙ rw (half_pow j) (bit_pow j k ∙ eqb_suc j k)
+pub with_same : (w j : ℕ) → j < 64 → bit (with_bit w j) j ≡ true
+unfolding bit
+with_same w j h = ap (λ b. eqb b 1) (bit_at_set_same w64 w j h)
 
--- the bits below the lowest that is set
-pub tz_low : (d w k : ℕ) → k < count_trailing_zeros d w → bit w k ≡ false
-unfolding count_trailing_zeros
-tz_low zero w k h = absurd (omega arith)
-tz_low (suc d) w k h = ⊎_elim
-    (λ (e : w % 2 ≡ 0). low (tz_low d (w / 2)) k e (rw e at h))
-    (λ (n : w % 2 ≢ 0). let e : w % 2 ≡ 1 = omega arith in absurd (omega (arith, rw e at h)))
-    (cases_eq (w % 2) 0)
-  where
-    low : ((k : ℕ) → k < count_trailing_zeros d (w / 2) → bit (w / 2) k ≡ false) → (k : ℕ) → w % 2 ≡ 0 → k < suc (count_trailing_zeros d (w / 2)) → bit w k ≡ false
-    low back zero e h = bit_first w ∙ rw e refl
-    low back (suc k) e h = bit_suc w k ∙ back k (omega arith)
+pub with_other : (w j k : ℕ) → j < 64 → k ≢ j → bit (with_bit w j) k ≡ bit w k
+unfolding bit
+with_other w j k h d = ap (λ b. eqb b 1) (bit_at_set_other w64 w j h k d)
 
--- and the lowest that is set
-pub tz_hit : (d w : ℕ) → 0 < w → w < 2 ^ d → bit w (count_trailing_zeros d w) ≡ true
-unfolding count_trailing_zeros
-tz_hit zero w p h = absurd (omega arith)
-tz_hit (suc d) w p h = ⊎_elim
-    (λ (e : w % 2 ≡ 0). rw e (bit_suc w (count_trailing_zeros d (w / 2)) ∙ tz_hit d (w / 2) (omega arith) (half d w h)))
-    (λ (n : w % 2 ≢ 0). let e : w % 2 ≡ 1 = omega arith in rw e (bit_first w ∙ rw e refl))
-    (cases_eq (w % 2) 0)
+pub without_same : (w j : ℕ) → j < 64 → bit (without_bit w j) j ≡ false
+unfolding bit
+without_same w j h = ap (λ b. eqb b 1) (bit_at_clear_same w64 w j h)
+
+pub without_other : (w j k : ℕ) → j < 64 → k < 64 → k ≢ j → bit (without_bit w j) k ≡ bit w k
+unfolding bit
+without_other w j k h l d = ap (λ b. eqb b 1) (bit_at_clear_other w64 w j h k l d)
+
+-- the lowest bit that is set, and those below it
+pub tz_hit : (w : ℕ) → 0 < w → w < 2 ^ 64 → bit w (count_trailing_zeros 64 w) ≡ true
+unfolding bit
+tz_hit w p h = ap (λ b. eqb b 1) (bit_at-trailing_zeros w64 w p h).1
+
+pub tz_low : (w k : ℕ) → 0 < w → w < 2 ^ 64 → k < count_trailing_zeros 64 w → bit w k ≡ false
+unfolding bit
+tz_low w k p h l = ap (λ b. eqb b 1) ((bit_at-trailing_zeros w64 w p h).2 k l)
 
 -- the bits of one word that are not in another
 one_less : (x y : ℕ) → x < 2 → y < 2 → eqb (min x (1 - y)) 1 ≡ (eqb x 1 && not (eqb y 1))
@@ -141,3 +133,10 @@ bit_less v w k h l =
 
 pub less_lt : (v w : ℕ) → v < 2 ^ 64 → w < 2 ^ 64 → less v w < 2 ^ 64
 less_lt v w h l = omega (arith, and_le_l v (18446744073709551615 - w))
+
+-- a word that has a page
+pub used_true : (w : ℕ) → used w ≡ true → 0 < w
+used_true w h = grind (arith, nat_tests)
+
+pub used_false : (w : ℕ) → used w ≡ false → w ≡ 0
+used_false w h = grind (arith, nat_tests)

@@ -1,18 +1,13 @@
 -- The pages of a set of words. Assumes nothing.
-use Rattle.std.proofs.Common.{◌≡◌, ℕ, zero, suc, ◌+◌, ◌-◌, ◌*◌, ◌/◌, ◌%◌, ◌^◌, ◌<◌, ◌≤◌, Bool, true, false, not, ◌||◌, ◌≢◌, List, [], ◌∷◌, length, get_or, take, drop, position, Some, None, map, sum, set, add-one, sym, refl, ap, ◌∙◌, subst, ⊎_elim, arith, get_or-set_other, get_or-set_same}
-use lib.Bits.{bit_or}
+use Rattle.std.proofs.Common.{◌≡◌, ℕ, zero, suc, ◌+◌, ◌-◌, ◌*◌, ◌/◌, ◌%◌, ◌^◌, ◌<◌, ◌≤◌, Bool, true, false, ◌≢◌, List, [], ◌∷◌, length, get_or, take, map, sum, set, add-one, replicate, sym, refl, ap, ◌∙◌, subst, ⊎_elim, arith, get_or-set_other, get_or-set_same}
 use lib.Count.{ones, count_trailing_zeros}
 use Rattle.std.proofs.lemmas.Nat.{shr_le}
-use Rattle.std.proofs.lemmas.List.{get_or_past, take_all, length-drop, get_or-drop}
+use Rattle.std.proofs.lemmas.List.{get_or_past, take_all}
 use Rattle.std.specs.List.{sum_by}
-use Rattle.std.proofs.lemmas.List.Sums.{sum_by_more, sum-map, sum_by-le, prefix_len_passes}
-use Rattle.std.proofs.lemmas.List.Quantifiers.{position-Some}
-use Rattle.std.proofs.lemmas.Bool.Decides.{nat_tests}
-use Rattle.std.proofs.lemmas.List.Elements.{All-from_get_or}
-use Rattle.std.proofs.lemmas.Nat.{ones-le}
-use Rattle.std.proofs.lemmas.Bool.{cases_lt, cases_eq, eq-eqb, ne_eqb, both_ways, or_right}
-use Rattle.pageset.specs.Sets.{bit, bit_at, holds, tally, Words, FirstAfter, used}
-use Rattle.pageset.proofs.Digits.{bit_shr, bit_none, bit_high, bit_or_lem, bit_pow, tz_low, tz_hit, count, ones_count}
+use Rattle.std.proofs.lemmas.List.Sums.{sum_by_more, sum-map}
+use Rattle.std.proofs.lemmas.Bool.{cases_lt, cases_eq, both_ways}
+use Rattle.pageset.specs.Sets.{bit, bit_at, holds, tally, Words, FirstAfter}
+use Rattle.pageset.proofs.Digits.{bit_shr, bit_none, bit_high, tz_low, tz_hit, count, ones_count}
 
 -- page n is bit n - 1
 pub holds_suc : (ws : List ℕ) (k : ℕ) → holds ws (suc k) ≡ bit (get_or ws (k / 64) 0) (k % 64)
@@ -27,14 +22,15 @@ pub holds_at : (ws : List ℕ) (n : ℕ) → 0 < n → holds ws n ≡ bit (get_o
 holds_at ws zero p = absurd (omega arith)
 holds_at ws (suc k) p = let e : suc k - 1 ≡ k = omega arith in rw e (holds_suc ws k)
 
--- sets of equal words
-pub holds_like : (vs ws : List ℕ) (n : ℕ) → (0 < n → get_or vs ((n - 1) / 64) 0 ≡ get_or ws ((n - 1) / 64) 0) → holds vs n ≡ holds ws n
-holds_like vs ws zero h = holds_zero vs ∙ sym (holds_zero ws)
-holds_like vs ws (suc k) h = holds_at vs (suc k) (omega arith) ∙ rw (h (omega arith)) (sym (holds_at ws (suc k) (omega arith)))
-
 -- no page past the words
 pub holds_past : (ws : List ℕ) (n : ℕ) → length ws ≡ 16 → 1024 < n → holds ws n ≡ false
 holds_past ws n l h = holds_at ws n (omega arith) ∙ rw (get_or_past ws ((n - 1) / 64) 0 (omega arith)) (bit_none ((n - 1) % 64))
+
+-- a list of zeros, past its end too
+pub zeros : (n k : ℕ) → get_or {A = ℕ} (replicate n 0) k 0 ≡ 0
+zeros zero k = refl
+zeros (suc n) zero = refl
+zeros (suc n) (suc k) = zeros n k
 
 -- no page in words of no bit
 pub holds_none : (ws : List ℕ) (n : ℕ) → ((k : ℕ) → get_or ws k 0 ≡ 0) → holds ws n ≡ false
@@ -62,33 +58,23 @@ module _
         (λ (h : 16 ≤ k). rw (get_or_past us k 0 (omega arith)) (omega arith))
         (cases_lt k 16)
 
+-- page k + 1 put in or taken out, by the word v for its word
 module _
-    (ws : List ℕ) (k : ℕ) (long : length ws ≡ 16) (small : k < 1024)
+    (ws : List ℕ) (k v : ℕ) (long : length ws ≡ 16) (small : k < 1024) (kept : (j : ℕ) → j < 64 → j ≢ k % 64 → bit v j ≡ bit (get_or ws (k / 64) 0) j)
   where
-    abbrev pub plus : List ℕ
-    plus = set ws (k / 64) (bit_or (get_or ws (k / 64) 0) (2 ^ (k % 64)))
+    abbrev pub changed : List ℕ
+    changed = set ws (k / 64) v
 
-    here : get_or plus (k / 64) 0 ≡ bit_or (get_or ws (k / 64) 0) (2 ^ (k % 64))
-    here = get_or-set_same ws (k / 64) (bit_or (get_or ws (k / 64) 0) (2 ^ (k % 64))) 0 (omega arith)
+    pub changed_there : (n : ℕ) → n ≡ suc k → holds changed n ≡ bit v (k % 64)
+    changed_there n e = ap (holds changed) e ∙ holds_suc changed k ∙ ap (λ (w : ℕ). bit w (k % 64)) (get_or-set_same ws (k / 64) v 0 (omega arith))
 
-    pub plus_added : (n : ℕ) → n ≡ suc k → holds plus n ≡ true
-    plus_added n e =
-        ap (holds plus) e ∙ holds_suc plus k ∙ ap (λ (w : ℕ). bit w (k % 64)) here ∙ bit_or_lem (get_or ws (k / 64) 0) (2 ^ (k % 64)) (k % 64)
-        ∙ or_right _ _ (bit_pow (k % 64) (k % 64) ∙ eq-eqb (k % 64) (k % 64) refl)
-
-    or_false : (b : Bool) → (b || false) ≡ b
-    or_false true = refl
-    or_false false = refl
-
-    pub plus_others : (n : ℕ) → (n ≡ suc k → ⊥) → holds plus n ≡ holds ws n
-    plus_others zero h = holds_zero plus ∙ sym (holds_zero ws)
-    plus_others (suc m) h = ⊎_elim
+    pub changed_others : (n : ℕ) → (n ≡ suc k → ⊥) → holds changed n ≡ holds ws n
+    changed_others zero h = holds_zero changed ∙ sym (holds_zero ws)
+    changed_others (suc m) h = ⊎_elim
         (λ (e : m / 64 ≡ k / 64).
-        let other : k % 64 ≢ m % 64 = λ f. h (omega arith) in
-        holds_suc plus m ∙ rw e (ap (λ (w : ℕ). bit w (m % 64)) here ∙ bit_or_lem (get_or ws (k / 64) 0) (2 ^ (k % 64)) (m % 64)
-        ∙ rw (bit_pow (k % 64) (m % 64), ne_eqb (k % 64) (m % 64) other) (or_false (bit (get_or ws (k / 64) 0) (m % 64)) ∙ sym (rw e at (holds_suc ws m)))))
+        holds_suc changed m ∙ rw e (ap (λ (w : ℕ). bit w (m % 64)) (get_or-set_same ws (k / 64) v 0 (omega arith)) ∙ kept (m % 64) (omega arith) (λ f. h (omega arith)) ∙ sym (rw e at (holds_suc ws m))))
         (λ (e : m / 64 ≢ k / 64).
-        holds_suc plus m ∙ ap (λ (w : ℕ). bit w (m % 64)) (get_or-set_other ws (k / 64) (m / 64) (bit_or (get_or ws (k / 64) 0) (2 ^ (k % 64))) 0 e) ∙ sym (holds_suc ws m))
+        holds_suc changed m ∙ ap (λ (w : ℕ). bit w (m % 64)) (get_or-set_other ws (k / 64) (m / 64) v 0 e) ∙ sym (holds_suc ws m))
         (cases_eq (m / 64) (k / 64))
 
 -- words that are set stay words
@@ -143,11 +129,11 @@ module _
         (λ (h : 64 ≤ j + count_trailing_zeros 64 v).
         let f = bit_high 64 (get_or ws i 0) (j + count_trailing_zeros 64 v) word h in
         let g : bit v (count_trailing_zeros 64 v) ≡ false = ap (λ (x : ℕ). bit x (count_trailing_zeros 64 v)) e ∙ bit_shr (get_or ws i 0) j (count_trailing_zeros 64 v) ∙ f in
-        absurd (both_ways (bit v (count_trailing_zeros 64 v)) g (tz_hit 64 v p small)))
+        absurd (both_ways (bit v (count_trailing_zeros 64 v)) g (tz_hit v p small)))
         (cases_lt (j + count_trailing_zeros 64 v) 64)
 
     pub hit : 0 < v → holds ws (64 * i + j + 1 + count_trailing_zeros 64 v) ≡ true
-    hit p = bit_there (count_trailing_zeros 64 v) (hit_inside p) ∙ tz_hit 64 v p small
+    hit p = bit_there (count_trailing_zeros 64 v) (hit_inside p) ∙ tz_hit v p small
 
     clear : (n : ℕ) → 64 * i + j < n → n ≤ 64 * i + 64 → bit v (n - (64 * i + j + 1)) ≡ false → holds ws n ≡ false
     clear n p q f =
@@ -155,7 +141,7 @@ module _
         subst (λ (m : ℕ). holds ws m ≡ false) s (bit_there (n - (64 * i + j + 1)) (omega arith) ∙ f)
 
     pub before : 0 < v → (n : ℕ) → 64 * i + j < n → n < 64 * i + j + 1 + count_trailing_zeros 64 v → holds ws n ≡ false
-    before p n q r = clear n q (omega (arith, hit_inside p)) (tz_low 64 v (n - (64 * i + j + 1)) (omega arith))
+    before p n q r = clear n q (omega (arith, hit_inside p)) (tz_low v (n - (64 * i + j + 1)) p small (omega arith))
 
     pub nothing : v ≡ 0 → (n : ℕ) → 64 * i + j < n → n ≤ 64 * i + 64 → holds ws n ≡ false
     nothing z n q r = clear n q r (rw z (bit_none (n - (64 * i + j + 1))))
@@ -173,12 +159,6 @@ sum_ones ws l h =
     let b = sum_part ws 16 h (omega arith) in
     sum-map ones ws ∙ rw (take_all 16 ws (omega arith)) at b
 
--- no word has more than 64
-pub sum_ones_few : (ws : List ℕ) → length ws ≡ 16 → Words ws → sum (map ones ws) < 2 ^ 32
-sum_ones_few ws l h =
-    let b = sum_by-le ones 64 ws (All-from_get_or (λ x. ones x ≤ 64) ws 0 (λ i q. ones-le 64 (get_or ws i 0) (h i))) in
-    rw (sum-map ones ws) (omega (arith, b))
-
 -- the first page after page 64 * i + j, where v has the bits of word i from bit j on
 module _
     (ws : List ℕ) (i j v : ℕ) (word : get_or ws i 0 < 2 ^ 64) (e : v ≡ get_or ws i 0 / 2 ^ j) (inside : j < 64) (some : 0 < v) (low : i < 16)
@@ -191,40 +171,3 @@ module _
 -- the pages of words that are zero
 pub empty_words : (ws : List ℕ) (a b : ℕ) → ((k : ℕ) → a ≤ k → k < b → get_or ws k 0 ≡ 0) → (n : ℕ) → 64 * a < n → n ≤ 64 * b → holds ws n ≡ false
 empty_words ws a b z n p q = holds_at ws n (omega arith) ∙ rw (z ((n - 1) / 64) (omega arith) (omega arith)) (bit_none ((n - 1) % 64))
-
--- no element passes where no position is found
-position_none : {X : Type 0} (p : X → Bool) (xs : List X) → position p xs ≡ None → (k : ℕ) (d : X) → k < length xs → p (get_or xs k d) ≡ false
-position_none p xs e k d h = grind (arith, prefix_len_passes (λ x. not (p x)) xs k d)
-
-used_true : (w : ℕ) → used w ≡ true → 0 < w
-used_true w h = grind (arith, nat_tests)
-
-used_false : (w : ℕ) → used w ≡ false → w ≡ 0
-used_false w h = grind (arith, nat_tests)
-
-module _
-    (ws : List ℕ) (a : ℕ) (long : length ws ≡ 16) (low : a ≤ 16)
-  where
-    -- the words from word a on
-    abbrev pub rest : List ℕ
-    rest = take (16 - a) (drop a ws)
-
-    rest_at : (k : ℕ) → a ≤ k → get_or rest (k - a) 0 ≡ get_or ws k 0
-    rest_at k h =
-        let e : a + (k - a) ≡ k = omega arith in
-        ap (λ l. get_or l (k - a) 0) (take_all (16 - a) (drop a ws) (omega (arith, length-drop a ws))) ∙ get_or-drop a ws (k - a) 0 ∙ ap (λ i. get_or ws i 0) e
-
-    length_rest : length rest ≡ 16 - a
-    length_rest = ap length (take_all (16 - a) (drop a ws) (omega (arith, length-drop a ws))) ∙ omega (arith, length-drop a ws)
-
-    pub none_used : position used rest ≡ None → (k : ℕ) → a ≤ k → k < 16 → get_or ws k 0 ≡ 0
-    none_used e k h l = used_false (get_or ws k 0) (sym (ap used (rest_at k h)) ∙ position_none used rest e (k - a) 0 (omega (arith, length_rest)))
-
-    pub some_used : (i : ℕ) → position used rest ≡ Some i → (a + i < 16) × (0 < get_or ws (a + i) 0) × ((k : ℕ) → a ≤ k → k < a + i → get_or ws k 0 ≡ 0)
-    some_used i e =
-        let h = position-Some used rest i 0 e in
-        let s : a + i - a ≡ i = omega arith in (
-          omega (arith, h, length_rest),
-          used_true (get_or ws (a + i) 0) (sym (ap used (rw s at (rest_at (a + i) (omega arith)))) ∙ h.1),
-          λ k p q. used_false (get_or ws k 0) (sym (ap used (rest_at k p)) ∙ h.2 (k - a) (omega arith)),
-        )

@@ -60,6 +60,18 @@ impl PageSet {
         self.words[k as usize / 64] |= 1 << (k % 64);
     }
 
+    // Takes a page out of the set. Passes over 0 and numbers above 1024.
+    pub fn remove(&mut self, page: u16)
+        ensures gone { holds self.new.words page ≡ false }
+        ensures others { (n : ℕ) → (n ≢ page) → holds self.new.words n ≡ holds self.old.words n }
+    {
+        if page == 0 || page > 1024 {
+            return;
+        }
+        let k = page - 1;
+        self.words[k as usize / 64] &= !(1 << (k % 64));
+    }
+
     // The pages of either set.
     pub fn union(&self, other: &PageSet) -> Self
         ensures { (n : ℕ) → holds result.words n ≡ (holds self.now.words n || holds other.now.words n) }

@@ -2,7 +2,10 @@ use Rattle.std.proofs.Common.{◌≡◌, ℕ, ◌+◌, ◌*◌, ◌/◌, ◌%◌
 use lib.Count.{count_trailing_zeros}
 use Rattle.std.proofs.lemmas.Bool.{cases_lt}
 use Rattle.pageset.specs.Sets.{holds, FirstAfter}
-use Rattle.pageset.proofs.Members.{holds_past, first_after, nothing, empty_words, whole, none_used, some_used}
+use Rattle.pageset.proofs.Members.{holds_past, first_after, nothing, empty_words, whole}
+use Rattle.pageset.proofs.Positions.{none_in, some_in}
+use Rattle.pageset.proofs.Digits.{used_true, used_false}
+use Rattle.pageset.specs.Sets.{used}
 use Rattle.pageset.proofs.PageSet.after.Goals as goal
 
 pub returns-then-page-ge1024 : goal.returns-then-page-ge1024
@@ -28,7 +31,7 @@ returns-in_err-i c =
     rw c.from_residual.ensures (λ n a. ⊎_elim
     (λ (l : 64 * (i + 1) < n). ⊎_elim
     (λ (h : 1024 < n). holds_past t.words n t.sized h)
-    (λ (h : n ≤ 1024). empty_words t.words (i + 1) 16 (none_used t.words (i + 1) t.sized (omega arith) (sym c.in_err-i.ensures)) n l h)
+    (λ (h : n ≤ 1024). empty_words t.words (i + 1) 16 (λ k q r. used_false (get_or t.words k 0) (none_in used t.words (i + 1) 16 (omega arith) (omega arith) (sym c.in_err-i.ensures) k q r)) n l h)
     (cases_lt 1024 n))
     (λ (l : n ≤ 64 * (i + 1)). nothing t.words i j v (t.bits i) refl (omega arith) (omega (arith, c.if-rest-ne0.false)) n (omega arith) (omega arith))
     (cases_lt (64 * (i + 1)) n))
@@ -40,17 +43,17 @@ returns c =
     let i = p / 64 in
     let j = p % 64 in
     let v = get_or t.words i 0 / 2 ^ j in
-    let more = some_used t.words (i + 1) t.sized (omega arith) c.in_ok-i.field-0 (sym c.in_ok-i.ensures) in
+    let more = some_in used t.words (i + 1) 16 (omega arith) (omega arith) c.in_ok-i.field-0 (sym c.in_ok-i.ensures) in
     let k = i + 1 + c.in_ok-i.field-0 in
     let w = get_or t.words k 0 in
-    let f = first_after t.words k 0 w (t.bits k) (whole w) (omega arith) more.1 more.0 in
+    let f = first_after t.words k 0 w (t.bits k) (whole w) (omega arith) (used_true w more.1) more.0 in
     record {
       above = omega arith;
       most = omega (arith, f.most);
       between = λ n a b. ⊎_elim
           (λ (l : 64 * (i + 1) < n). ⊎_elim
           (λ (h : 64 * k < n). f.between n (omega arith) (omega arith))
-          (λ (h : n ≤ 64 * k). empty_words t.words (i + 1) k more.2 n l h)
+          (λ (h : n ≤ 64 * k). empty_words t.words (i + 1) k (λ m q r. used_false (get_or t.words m 0) (more.2 m q r)) n l h)
           (cases_lt (64 * k) n))
           (λ (l : n ≤ 64 * (i + 1)). nothing t.words i j v (t.bits i) refl (omega arith) (omega (arith, c.if-rest-ne0.false)) n (omega arith) (omega arith))
           (cases_lt (64 * (i + 1)) n);
