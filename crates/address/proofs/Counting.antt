@@ -1,11 +1,11 @@
 -- Counts of the entries in use. Assumes nothing.
-use Rattle.std.proofs.Common.{◌≡◌, ℕ, zero, suc, ◌+◌, ◌<◌, ◌≤◌, Bool, true, cond, ◌≢◌, List, [], ◌∷◌, length, get_or, take, set, refl, ◌∙◌, ⊎_elim, add-one, arith, get_or-set_other}
+use Rattle.std.proofs.Common.{◌≡◌, ℕ, zero, suc, ◌+◌, ◌<◌, ◌≤◌, Bool, true, false, cond, ◌≢◌, List, [], ◌∷◌, length, get_or, take, set, refl, ◌∙◌, ⊎_elim, add-one, arith, get_or-set_other}
 use Rattle.std.proofs.lemmas.List.Sums.{sum_by-set, sum_by-cons, sum_by-take-le, count_by_more_yes}
 use Rattle.std.proofs.lemmas.List.{length-set}
 use Rattle.std.proofs.lemmas.Bool.{lt-ltb, cases_eq}
 use Rattle.std.proofs.lemmas.Bool.Decides.{nat_tests}
 use Rattle.pageset.specs.Sets.{tally}
-use Rattle.address.specs.Pairing.{owned, in_use, Only}
+use Rattle.address.specs.Pairing.{owned, in_use, free, Only}
 
 -- one more entry in use
 pub owned_put : (xs : List ℕ) (i y : ℕ) → i < length xs → get_or xs i 0 ≡ 0 → 0 < y → owned (set xs i y) ≡ owned xs + 1
@@ -76,3 +76,9 @@ owned_fewer xs p n l z h q m none w =
     (cases_eq k n) in
     let first : get_or (set xs n 1) 0 0 ≡ 0 = get_or-set_other xs n 0 1 0 (λ e. omega arith) ∙ z in
     omega (arith, more, owned_within (set xs n 1) p (simp length-set l) first all)
+
+pub free_true : (x : ℕ) → free x ≡ true → x ≡ 0
+free_true x h = grind (arith, nat_tests)
+
+pub free_false : (x : ℕ) → free x ≡ false → 0 < x
+free_false x h = grind (arith, nat_tests)

@@ -1,14 +1,14 @@
 // Slots and pages, one to one. Inside the table slots and pages are counted from 1, and 0 is none.
-ghost use Rattle.std.specs.Prelude.{◌≡◌, ℕ, ◌+◌, ◌-◌, ◌<◌, ◌≤◌, min, true, false, length, replicate, slice_index_or};
+ghost use Rattle.std.specs.Prelude.{◌≡◌, ℕ, ◌+◌, ◌<◌, ◌≤◌, min, true, length, replicate, position, MatchOption, slice_index, slice_index_or, slice_set};
 ghost use Rattle.pageset.specs.Sets.{holds, tally};
-ghost use Rattle.address.specs.Pairing.{Agree, Within, Counted, Sound, Only, All, owned};
+ghost use Rattle.address.specs.Pairing.{Agree, Within, Counted, Only, All, entry, free};
 ghost use Rattle.address.specs.Listing.{Listed};
 
 use pageset::PageSet;
 
-// The page of each slot and the slot of each page. `owners` is the set of the pages that have slots,
-// so that a change costs by what changes.
-#[derive(Clone, Copy)]
+// The page of each slot and the slot of each page: two arrays of fixed size, one to one, as the table is written whole.
+// `owners` is the set of the pages that have slots, so that a change costs by what changes.
+#[derive(Clone, Copy, Debug, PartialEq, Eq)]
 pub struct AddressTable {
     page_of: [u16; 257],
     slot_of: [u16; 1025],
@@ -22,90 +22,21 @@ pub struct AddressTable {
     ghost listed: { Listed (holds owners.words) slot_of },
 }
 
-// Takes the slot away from each page that is not wanted. Answers how many slots have a page then.
-fn release(
-    page_of: &mut [u16; 257],
-    slot_of: &mut [u16; 1025],
-    slots: u16,
-    mut used: u16,
-    pages: &PageSet,
-    wanted: &PageSet,
-) -> u16
-    requires sound { Sound page_of.old slot_of.old slots used }
-    requires listed { Listed (holds pages.now.words) slot_of.old }
-    ensures sound { Sound page_of.new slot_of.new slots result }
-    ensures kept { (n : ℕ) → holds wanted.now.words n ≡ true → slice_index_or slot_of.new n 0 ≡ slice_index_or slot_of.old n 0 }
-    ensures only { Only (holds wanted.now.words) slot_of.new }
+// What a page or a slot has in its list, if anything.
+fn entry(entries: &[u16], number: u16) -> Option<u16>
+    ensures { result ≡ entry (slice_index entries.now number) }
 {
-    let out = pages.minus(wanted);
-    let mut page = out.after(0);
-    while page <= 1024 {
-        let s = slot_of[page as usize];
-        if s == 0 {
-            page = out.after(page);
-            continue;
-        }
-        page_of[s as usize] = 0;
-        slot_of[page as usize] = 0;
-        used -= 1;
-        page = out.after(page);
-    }
-    used
+    entries
+        .get(number as usize)
+        .copied()
+        .filter(|entry| *entry > 0)
 }
 
-// The first slot from there on that has no page, or the number past the last.
-fn vacant(page_of: &[u16; 257], from: u16, slots: u16) -> u16
-    requires { (slots ≤ 256) × (from ≤ slots + 1) }
-    ensures most { result ≤ slots + 1 }
-    ensures least { from ≤ result }
-    ensures passed { (k : ℕ) → from ≤ k → k < result → 0 < slice_index_or page_of.now k 0 }
-    ensures free { result ≤ slots → slice_index_or page_of.now result 0 ≡ 0 }
+// The first entry that is free.
+fn first_free(entries: &[u16]) -> Option<usize>
+    ensures { result ≡ position free entries.now }
 {
-    for s in from..slots + 1 {
-        if page_of[s as usize] == 0 {
-            return s;
-        }
-    }
-    slots + 1
-}
-
-// Gives free slots to the wanted pages that have none, while there are some, and puts them into the set of pages. Answers how many slots have a page then.
-fn award(
-    page_of: &mut [u16; 257],
-    slot_of: &mut [u16; 1025],
-    slots: u16,
-    mut used: u16,
-    pages: &mut PageSet,
-    wanted: &PageSet,
-) -> u16
-    requires sound { Sound page_of.old slot_of.old slots used }
-    requires listed { Listed (holds pages.old.words) slot_of.old }
-    requires only { Only (holds wanted.now.words) slot_of.old }
-    ensures sound { Sound page_of.new slot_of.new slots result }
-    ensures listed { Listed (holds pages.new.words) slot_of.new }
-    ensures kept { (n : ℕ) → 0 < slice_index_or slot_of.old n 0 → slice_index_or slot_of.new n 0 ≡ slice_index_or slot_of.old n 0 }
-    ensures only { Only (holds wanted.now.words) slot_of.new }
-    ensures all { tally (holds wanted.now.words) 1024 ≤ slots → All (holds wanted.now.words) slot_of.new 1025 }
-{
-    let come = wanted.minus(pages);
-    let mut next: u16 = 1;
-    let mut page = come.after(0);
-    while page <= 1024 {
-        if slot_of[page as usize] > 0 {
-            page = come.after(page);
-            continue;
-        }
-        next = vacant(page_of, next, slots);
-        if next > slots {
-            return used;
-        }
-        page_of[next as usize] = page;
-        slot_of[page as usize] = next;
-        pages.add(page);
-        used += 1;
-        page = come.after(page);
-    }
-    used
+    entries.iter().position(|entry| *entry == 0)
 }
 
 impl AddressTable {
@@ -123,24 +54,18 @@ impl AddressTable {
         }
     }
 
-    // The slot of a page, or 0.
-    pub fn slot(&self, page: u16) -> u16
-        ensures { result ≡ slice_index_or self.now.slot_of page 0 }
+    // The slot of a page.
+    pub fn slot(&self, page: u16) -> Option<u16>
+        ensures { result ≡ entry (slice_index_or self.now.slot_of page 0) }
     {
-        if page > 1024 {
-            return 0;
-        }
-        self.slot_of[page as usize]
+        entry(&self.slot_of, page)
     }
 
-    // The page of a slot, or 0.
-    pub fn page(&self, slot: u16) -> u16
-        ensures { result ≡ slice_index_or self.now.page_of slot 0 }
+    // The page of a slot.
+    pub fn page(&self, slot: u16) -> Option<u16>
+        ensures { result ≡ entry (slice_index_or self.now.page_of slot 0) }
     {
-        if slot > 256 {
-            return 0;
-        }
-        self.page_of[slot as usize]
+        entry(&self.page_of, slot)
     }
 
     // How many slots there are.
@@ -148,6 +73,77 @@ impl AddressTable {
         ensures { result ≡ self.now.slots }
     {
         self.slots
+    }
+
+    // Takes its slot away from a page that has one.
+    fn free(&mut self, page: u16)
+        requires { 0 < slice_index self.old.slot_of page }
+        ensures slots { self.new.slots ≡ self.old.slots }
+        ensures slot_of { self.new.slot_of ≡ slice_set self.old.slot_of page 0 }
+    {
+        let slot = self.slot_of[page as usize];
+        self.page_of[slot as usize] = 0;
+        self.slot_of[page as usize] = 0;
+        self.used -= 1;
+        self.owners.remove(page);
+    }
+
+    // Gives a free slot to a page that has none.
+    fn give(&mut self, page: u16, slot: u16)
+        requires page { (0 < page) × (page ≤ 1024) × (slice_index self.old.slot_of page ≡ 0) }
+        requires slot { (0 < slot) × (slot ≤ self.old.slots) × (slice_index self.old.page_of slot ≡ 0) }
+        ensures slots { self.new.slots ≡ self.old.slots }
+        ensures slot_of { self.new.slot_of ≡ slice_set self.old.slot_of page slot }
+        ensures page_of { self.new.page_of ≡ slice_set self.old.page_of slot page }
+    {
+        self.page_of[slot as usize] = page;
+        self.slot_of[page as usize] = slot;
+        self.used += 1;
+        self.owners.add(page);
+    }
+
+    // Takes the slot away from each page that is not wanted.
+    fn release(&mut self, wanted: &PageSet)
+        ensures slots { self.new.slots ≡ self.old.slots }
+        ensures kept { (n : ℕ) → holds wanted.now.words n ≡ true → slice_index self.new.slot_of n ≡ slice_index self.old.slot_of n }
+        ensures only { Only (holds wanted.now.words) self.new.slot_of }
+    {
+        let out = self.owners.minus(wanted);
+        let mut last = 0;
+        while let Some(page) = out.after(last) {
+            self.free(page);
+            last = page;
+        }
+    }
+
+    // The first slot from there on that has no page.
+    fn vacant(&self, from: u16) -> Option<u16>
+        requires { from ≤ self.now.slots + 1 }
+        ensures { MatchOption result ((k : ℕ) → from ≤ k → k ≤ self.now.slots → 0 < slice_index self.now.page_of k) (λ s. (from ≤ s) × (s ≤ self.now.slots) × (slice_index self.now.page_of s ≡ 0) × ((k : ℕ) → from ≤ k → k < s → 0 < slice_index self.now.page_of k)) }
+    {
+        let more = first_free(&self.page_of[from as usize..self.slots as usize + 1])?;
+        Some(from + more as u16)
+    }
+
+    // Gives free slots to the wanted pages that have none, while there are some.
+    fn award(&mut self, wanted: &PageSet)
+        requires only { Only (holds wanted.now.words) self.old.slot_of }
+        ensures slots { self.new.slots ≡ self.old.slots }
+        ensures kept { (n : ℕ) → 0 < slice_index self.old.slot_of n → slice_index self.new.slot_of n ≡ slice_index self.old.slot_of n }
+        ensures only { Only (holds wanted.now.words) self.new.slot_of }
+        ensures all { tally (holds wanted.now.words) 1024 ≤ self.old.slots → All (holds wanted.now.words) self.new.slot_of 1025 }
+    {
+        let come = wanted.minus(&self.owners);
+        let mut last = 0;
+        let mut next = 1;
+        while let Some(page) = come.after(last) {
+            let Some(slot) = self.vacant(next) else {
+                return;
+            };
+            self.give(page, slot);
+            last = page;
+            next = slot;
+        }
     }
 
     // Frees the slot of each page that is not wanted, and then sees that each wanted page has one. A wanted page
@@ -158,32 +154,9 @@ impl AddressTable {
         ensures only { Only (holds wanted.now.words) result.slot_of }
         ensures all { tally (holds wanted.now.words) 1024 ≤ self.slots → All (holds wanted.now.words) result.slot_of 1025 }
     {
-        let mut page_of = self.page_of;
-        let mut slot_of = self.slot_of;
-        let out = self.owners.minus(wanted);
-        let mut owners = self.owners.minus(&out);
-        let kept = release(
-            &mut page_of,
-            &mut slot_of,
-            self.slots,
-            self.used,
-            &self.owners,
-            wanted,
-        );
-        let used = award(
-            &mut page_of,
-            &mut slot_of,
-            self.slots,
-            kept,
-            &mut owners,
-            wanted,
-        );
-        AddressTable {
-            page_of,
-            slot_of,
-            slots: self.slots,
-            used,
-            owners,
-        }
+        let mut table = self;
+        table.release(wanted);
+        table.award(wanted);
+        table
     }
 }

@@ -1,6 +1,6 @@
 use Rattle.std.proofs.Common.{sym, refl, ◌∙◌, arith}
 use Rattle.std.proofs.lemmas.Bool.{le-ltb}
-use Rattle.address.proofs.Changes.{zeros}
+use Rattle.pageset.proofs.Members.{zeros}
 use Rattle.address.proofs.table.AddressTable.new.Goals as goal
 
 pub invariant_of-result : goal.invariant_of-result
