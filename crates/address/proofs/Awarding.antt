@@ -1,11 +1,11 @@
 -- Free slots given, one after another, to the wanted pages that have none. Assumes nothing.
-use Rattle.std.proofs.Common.{◌≡◌, ℕ, ◌+◌, ◌<◌, ◌≤◌, Bool, true, false, not, ◌&&◌, List, get_or, sym, ◌∙◌, ⊎_elim, arith}
-use Rattle.std.proofs.lemmas.Bool.{cases_lt, ltb-true, ltb-false}
+use Rattle.std.proofs.Common.{◌≡◌, ℕ, ◌+◌, ◌<◌, ◌≤◌, Bool, true, not, ◌&&◌, List, get_or, sym, ◌∙◌, ⊎_elim, arith}
+use Rattle.std.proofs.lemmas.Bool.{cases_lt, ltb-false}
 use Rattle.pageset.specs.Sets.{tally, FirstAfter}
 use Rattle.address.specs.Pairing.{Sound, Only}
 use Rattle.address.specs.Listing.{Listed}
 use Rattle.address.proofs.Counting.{owned_full, owned_fewer}
-use Rattle.address.proofs.Releasing.{minus_false, minus_true}
+use Rattle.address.proofs.Releasing.{minus_true}
 
 -- the pages up to n are done; those above are as they were; the slots below next are taken
 pub record Awarded (p : ℕ → Bool) (old page slot : List ℕ) (a next n : ℕ) : Type 0 where
@@ -20,12 +20,6 @@ pub record Awarded (p : ℕ → Bool) (old page slot : List ℕ) (a next n : ℕ
 module _
     (p pages come : ℕ → Bool) (old page slot : List ℕ) (a used next n : ℕ) (sound : Sound page slot a used) (listed : Listed pages old) (minus : (k : ℕ) → come k ≡ (p k && not (pages k))) (was : Awarded p old page slot a next n)
   where
-    -- a wanted page that does not come has a slot
-    stays : (k : ℕ) → n < k → come k ≡ false → p k ≡ true → 0 < get_or slot k 0
-    stays k l f w =
-        let h = ltb-true 0 (get_or old k 0) (sym (listed k) ∙ minus_false (p k) (pages k) (sym (minus k) ∙ f) w) in
-        omega (arith, h, was.later k l)
-
     taken_to : (s : ℕ) → ((k : ℕ) → next ≤ k → k < s → 0 < get_or page k 0) → (k : ℕ) → 0 < k → k < s → 0 < get_or page k 0
     taken_to s f k q l = ⊎_elim
         (λ (g : k < next). was.taken k q g)

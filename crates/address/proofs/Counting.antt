@@ -14,13 +14,6 @@ owned_put xs i y h z p =
     let f = rw (z, lt-ltb 0 y p) at e in
     omega (arith, f)
 
--- one entry in use less
-pub owned_clear : (xs : List ℕ) (i : ℕ) → i < length xs → 0 < get_or xs i 0 → owned (set xs i 0) + 1 ≡ owned xs
-owned_clear xs i h p =
-    let e = sum_by-set (λ x. cond (in_use x) 1 0) xs i 0 0 h in
-    let f = rw (lt-ltb 0 (get_or xs i 0) p) at e in
-    omega (arith, f)
-
 -- where the first a entries are all in use, at least a are
 front : (xs : List ℕ) (a : ℕ) → a ≤ length xs → ((k : ℕ) → k < a → 0 < get_or xs k 0) → owned (take a xs) ≡ a
 front xs zero h all = refl

@@ -1,6 +1,7 @@
 -- The laws of pages in frames and of changes to them. Assumes nothing.
 use Rattle.std.proofs.Common.{◌≡◌, ℕ, zero, suc, ◌+◌, ◌-◌, ◌*◌, ◌/◌, ◌%◌, ◌<◌, ◌≤◌, Bool, true, false, cond, not, ◌&&◌, ◌||◌, eqb, List, [], ◌∷◌, length, get_or, set, sym, refl, ap, ◌∙◌, ⊎_elim, arith}
 use Rattle.std.proofs.lemmas.Bool.{both_ways, cases_eq, cond-false, eq-eqb, ne_eqb, and_from, or_left, or_right, not_from_false}
+use Rattle.std.proofs.lemmas.List.{ext_get_or}
 use Rattle.page.specs.Descriptors.{declared}
 use Rattle.page.specs.Walks.{kind_of, odd, links_from, link_cells, fields_from, field_cells, starts_from, start_cells, leads, any_leads}
 use Rattle.page.specs.declared.descriptor.Descriptor.{Descriptor}
@@ -24,6 +25,10 @@ at_where f [] xs i z = refl
 at_where f (b ∷ bs) [] i z = sym (ap (λ y. cond (get_or (b ∷ bs) i false) y 0) z ∙ cond_same (get_or (b ∷ bs) i false) 0)
 at_where f (b ∷ bs) (x ∷ xs) zero z = refl
 at_where f (b ∷ bs) (x ∷ xs) (suc i) z = at_where f bs xs i z
+
+-- a page made cell by cell
+pub where_each : (f : ℕ → ℕ) (bs : List Bool) (xs ys : List ℕ) → f 0 ≡ 0 → length ys ≡ length xs → ((k : ℕ) → k < length xs → get_or ys k 0 ≡ cond (get_or bs k false) (f (get_or xs k 0)) (get_or xs k 0)) → ys ≡ map_where f bs xs
+where_each f bs xs ys z l each = ext_get_or 0 ys (map_where f bs xs) (l ∙ sym (length_where f bs xs)) (λ k h. each k (omega arith) ∙ sym (at_where f bs xs k z))
 
 pub round_where : (f g : ℕ → ℕ) (bs : List Bool) (xs : List ℕ) → ((i : ℕ) → get_or bs i false ≡ true → g (f (get_or xs i 0)) ≡ get_or xs i 0) → map_where g bs (map_where f bs xs) ≡ xs
 round_where f g [] xs h = refl

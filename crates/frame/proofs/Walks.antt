@@ -1,10 +1,12 @@
 -- One step of the walk, and of what is done at each flag. Assumes nothing.
-use Rattle.std.proofs.Common.{◌≡◌, ℕ, zero, suc, ◌+◌, ◌-◌, ◌/◌, ◌<◌, Bool, true, false, cond, ◌&&◌, ◌||◌, List, [], ◌∷◌, length, get_or, take, drop, set, is_some, Some, None, sym, refl, ap, ◌∙◌, add-one, arith}
+use Rattle.std.proofs.Common.{◌≡◌, ℕ, zero, suc, ◌+◌, ◌-◌, ◌/◌, ◌<◌, Bool, true, false, cond, eqb, nat_lt, ◌&&◌, ◌||◌, ◌⊎◌, List, [], ◌∷◌, length, get_or, take, drop, is_some, Some, None, refl, ap, ◌∙◌, add-one, arith}
+use Rattle.std.specs.List.{fold}
+use Rattle.std.proofs.lemmas.Bool.{lt-ltb, ne_eqb}
 use Rattle.std.proofs.lemmas.List.{drop_more}
 use Rattle.page.specs.Descriptors.{no_type, declared, type_of, found}
-use Rattle.page.specs.Walks.{kind_of, odd, links_from, link_cells, starts_from, start_cells, leads, any_leads}
+use Rattle.page.specs.Walks.{kind_of, odd, links_from, link_cells, starts_from, start_cells, any_leads}
 use Rattle.page.specs.declared.descriptor.Descriptor.{Descriptor}
-use Rattle.frame.specs.Links.{map_where}
+use Rattle.frame.specs.Links.{fields_after}
 
 some_if : {A : Type 0} (b : Bool) (x : A) → is_some (cond b (Some x) None) ≡ b
 some_if true x = refl
@@ -39,14 +41,6 @@ pub length_link_cells : (ts : List Descriptor) (xs : List ℕ) → length (link_
 length_link_cells ts [] = refl
 length_link_cells ts (x ∷ xs) = ap suc (length_links_from ts 0 0 xs)
 
-pub links_begin : (ts : List Descriptor) (xs : List ℕ) → (get_or (link_cells ts xs) 0 false ≡ false) × (drop 1 (link_cells ts xs) ≡ links_from ts 0 0 (drop 1 xs))
-links_begin ts [] = (refl, refl)
-links_begin ts (x ∷ xs) = (refl, refl)
-
-pub starts_begin : (ts : List Descriptor) (xs : List ℕ) → drop 1 (start_cells ts xs) ≡ starts_from ts 0 (drop 1 xs)
-starts_begin ts [] = refl
-starts_begin ts (x ∷ xs) = refl
-
 pub links_zero : (ts : List Descriptor) (xs : List ℕ) → get_or (link_cells ts xs) 0 false ≡ false
 links_zero ts [] = refl
 links_zero ts (x ∷ xs) = refl
@@ -64,48 +58,42 @@ pub length_start_cells : (ts : List Descriptor) (xs : List ℕ) → length (star
 length_start_cells ts [] = refl
 length_start_cells ts (x ∷ xs) = ap suc (length_starts_from ts 0 xs)
 
-module _ (ts : List Descriptor) (bs : List Bool) (xs : List ℕ) (i : ℕ) (h : i < length xs) where
-  -- at a header
-  pub links_header : (k m : ℕ) → drop i bs ≡ links_from ts k m (drop i xs) → k ≡ 0 → (get_or bs i false ≡ false) × (drop (i + 1) bs ≡ links_from ts (kind_of ts (get_or xs i 0)).size (kind_of ts (get_or xs i 0)).mask (drop (i + 1) xs))
-  links_header k m e z = cut bs i false false _ (e ∙ ap (λ n. links_from ts n m (drop i xs)) z ∙ ap (λ l. links_from ts 0 m l) (drop_more xs i 0 h))
+-- one cell of the walk
+links_cons : (ts : List Descriptor) (k m x : ℕ) (xs : List ℕ) → links_from ts k m (x ∷ xs) ≡ (nat_lt 0 k && odd m) ∷ links_from ts (fields_after ts (record { size = k; mask = m }) x).size (fields_after ts (record { size = k; mask = m }) x).mask xs
+links_cons ts zero m x xs = refl
+links_cons ts (suc k) m x xs = let e : suc k - 1 ≡ k = omega arith in rw (lt-ltb 0 (suc k) (omega arith), ne_eqb (suc k) 0 (λ z. omega arith), e) refl
 
-  -- at a field
-  pub links_field : (k m : ℕ) → drop i bs ≡ links_from ts k m (drop i xs) → 0 < k → (get_or bs i false ≡ odd m) × (drop (i + 1) bs ≡ links_from ts (k - 1) (m / 2) (drop (i + 1) xs))
-  links_field k m e p =
-      let z : k ≡ suc (k - 1) = omega arith in
-      cut bs i (odd m) false _ (e ∙ ap (λ n. links_from ts n m (drop i xs)) z ∙ ap (λ l. links_from ts (suc (k - 1)) m l) (drop_more xs i 0 h))
+starts_cons : (ts : List Descriptor) (k m x : ℕ) (xs : List ℕ) → starts_from ts k (x ∷ xs) ≡ (eqb k 0 && declared ts x) ∷ starts_from ts (fields_after ts (record { size = k; mask = m }) x).size xs
+starts_cons ts zero m x xs = refl
+starts_cons ts (suc k) m x xs = let e : suc k - 1 ≡ k = omega arith in rw (ne_eqb (suc k) 0 (λ z. omega arith), e) refl
 
-  pub starts_header : (k : ℕ) → drop i bs ≡ starts_from ts k (drop i xs) → k ≡ 0 → (get_or bs i false ≡ declared ts (get_or xs i 0)) × (drop (i + 1) bs ≡ starts_from ts (kind_of ts (get_or xs i 0)).size (drop (i + 1) xs))
-  starts_header k e z = cut bs i (declared ts (get_or xs i 0)) false _ (e ∙ ap (λ n. starts_from ts n (drop i xs)) z ∙ ap (λ l. starts_from ts 0 l) (drop_more xs i 0 h))
+-- the walk's flags at cell i, where the fields d are still to come
+pub links_step : (ts : List Descriptor) (bs : List Bool) (xs : List ℕ) (i : ℕ) (d : Descriptor) → i < length xs → drop i bs ≡ links_from ts d.size d.mask (drop i xs)
+    → (get_or bs i false ≡ (nat_lt 0 d.size && odd d.mask)) × (drop (i + 1) bs ≡ links_from ts (fields_after ts d (get_or xs i 0)).size (fields_after ts d (get_or xs i 0)).mask (drop (i + 1) xs))
+links_step ts bs xs i d h e = cut bs i _ false _ (e ∙ ap (λ l. links_from ts d.size d.mask l) (drop_more xs i 0 h) ∙ links_cons ts d.size d.mask (get_or xs i 0) (drop (i + 1) xs))
 
-  pub starts_field : (k : ℕ) → drop i bs ≡ starts_from ts k (drop i xs) → 0 < k → (get_or bs i false ≡ false) × (drop (i + 1) bs ≡ starts_from ts (k - 1) (drop (i + 1) xs))
-  starts_field k e p =
-      let z : k ≡ suc (k - 1) = omega arith in
-      cut bs i false false _ (e ∙ ap (λ n. starts_from ts n (drop i xs)) z ∙ ap (λ l. starts_from ts (suc (k - 1)) l) (drop_more xs i 0 h))
+-- the head counts as a field that is no link
+pub links_begin : (ts : List Descriptor) (xs : List ℕ) → link_cells ts xs ≡ links_from ts 1 0 xs
+links_begin ts [] = refl
+links_begin ts (x ∷ xs) = refl
 
-map_suc : (f : ℕ → ℕ) (bs : List Bool) (xs : List ℕ) (i : ℕ) → i < length bs → i < length xs → map_where f (take (suc i) bs) xs ≡ set (map_where f (take i bs) xs) i (cond (get_or bs i false) (f (get_or xs i 0)) (get_or xs i 0))
-map_suc f [] xs i h l = absurd (omega arith)
-map_suc f (b ∷ bs) [] i h l = absurd (omega arith)
-map_suc f (b ∷ bs) (x ∷ xs) zero h l = refl
-map_suc f (b ∷ bs) (x ∷ xs) (suc i) h l = ap (λ r. cond b (f x) x ∷ r) (map_suc f bs xs i (omega arith) (omega arith))
+-- whether an object starts at cell i, by the fields still to come there
+starts_fold : (ts : List Descriptor) (d : Descriptor) (xs : List ℕ) (i : ℕ) → i < length xs → get_or (starts_from ts d.size xs) i false ≡ (eqb (fold (fields_after ts) d (take i xs)).size 0 && declared ts (get_or xs i 0))
+starts_fold ts d [] i h = absurd (omega arith)
+starts_fold ts d (x ∷ xs) zero h = ap (λ l. get_or l 0 false) (starts_cons ts d.size d.mask x xs)
+starts_fold ts d (x ∷ xs) (suc i) h = ap (λ l. get_or l (suc i) false) (starts_cons ts d.size d.mask x xs) ∙ starts_fold ts (fields_after ts d x) xs i (omega arith)
 
-pub map_more : (f : ℕ → ℕ) (bs : List Bool) (xs : List ℕ) (i : ℕ) → i < length bs → i < length xs → map_where f (take (i + 1) bs) xs ≡ set (map_where f (take i bs) xs) i (cond (get_or bs i false) (f (get_or xs i 0)) (get_or xs i 0))
-map_more f bs xs i h l = rw add-one (map_suc f bs xs i h l)
+pub starts_there : (ts : List Descriptor) (xs : List ℕ) (c : ℕ) → 0 < c → c < length xs → get_or (start_cells ts xs) c false ≡ (eqb (fold (fields_after ts) no_type (take (c - 1) (drop 1 xs))).size 0 && declared ts (get_or xs c 0))
+starts_there ts [] c p h = absurd (omega arith)
+starts_there ts (x ∷ xs) zero p h = absurd (omega arith)
+starts_there ts (x ∷ xs) (suc c) p h = let e : suc c - 1 ≡ c = omega arith in rw e (starts_fold ts no_type xs c (omega arith))
 
 pub or_nothing : (b : Bool) → b ≡ (b || false)
 or_nothing true = refl
 or_nothing false = refl
 
-pub or_assoc : (a b c : Bool) → ((a || b) || c) ≡ (a || (b || c))
-or_assoc true b c = refl
-or_assoc false b c = refl
-
-any_suc : (n : ℕ) (bs : List Bool) (xs : List ℕ) (i : ℕ) → i < length bs → i < length xs → any_leads n (take (suc i) bs) xs ≡ (any_leads n (take i bs) xs || (get_or bs i false && leads n (get_or xs i 0)))
-any_suc n [] xs i h l = absurd (omega arith)
-any_suc n (b ∷ bs) [] i h l = absurd (omega arith)
-any_suc n (b ∷ bs) (x ∷ xs) zero h l = sym (or_nothing (b && leads n x))
-any_suc n (b ∷ bs) (x ∷ xs) (suc i) h l =
-    ap (λ t. (b && leads n x) || t) (any_suc n bs xs i (omega arith) (omega arith)) ∙ sym (or_assoc (b && leads n x) (any_leads n (take i bs) xs) (get_or bs i false && leads n (get_or xs i 0)))
-
-pub any_more : (n : ℕ) (bs : List Bool) (xs : List ℕ) (i : ℕ) → i < length bs → i < length xs → any_leads n (take (i + 1) bs) xs ≡ (any_leads n (take i bs) xs || (get_or bs i false && leads n (get_or xs i 0)))
-any_more n bs xs i h l = rw add-one (any_suc n bs xs i h l)
+-- where either list has ended
+pub any_end : (n : ℕ) (bs : List Bool) (xs : List ℕ) → (length bs ≡ 0) ⊎ (length xs ≡ 0) → any_leads n bs xs ≡ false
+any_end n [] xs e = refl
+any_end n (b ∷ bs) [] e = refl
+any_end n (b ∷ bs) (x ∷ xs) e = absurd (omega arith)

@@ -26,6 +26,10 @@ swizzled ts slots xs = map_where (address slots) (link_cells ts xs) xs
 abbrev pub unswizzled : List Descriptor → List ℕ → List ℕ → List ℕ
 unswizzled ts pages ys = map_where (pointer pages) (link_cells ts ys) ys
 
+-- the fields still to come after the cell x, of the fields d before it; where there are none x is a header
+abbrev pub fields_after : List Descriptor → Descriptor → ℕ → Descriptor
+fields_after ts d x = cond (d.size == 0) (kind_of ts x) (record { size = d.size - 1; mask = d.mask / 2 })
+
 -- n is the number of a page that a set can have
 abbrev pub is_page : ℕ → Bool
 is_page n = nat_lt 0 n && nat_le n 1024

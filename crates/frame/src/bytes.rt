@@ -4,6 +4,7 @@ ghost use Rattle.page.specs.Cells.{cell_at, put_at};
 ghost use Rattle.page.specs.Walks.{cells_of, page_of};
 
 use page::{cell, put_cell};
+use std::array;
 
 // The number in cell `i`.
 fn number_at(bytes: &[u8; 512], i: usize) -> u64
@@ -26,11 +27,7 @@ pub fn cells_of(bytes: &[u8; 512]) -> [u64; 64]
     ensures value { result ≡ cells_of bytes.now }
     ensures bytes { (j : ℕ) → slice_index bytes.now j < 256 }
 {
-    let mut cells = [0; 64];
-    for i in 0..64usize {
-        cells[i] = number_at(bytes, i);
-    }
-    cells
+    array::from_fn(|i| number_at(bytes, i))
 }
 
 // The bytes of a page of these cells.
@@ -38,8 +35,8 @@ pub fn bytes_of(cells: &[u64; 64]) -> [u8; 512]
     ensures { result ≡ page_of cells.now }
 {
     let mut bytes = [0; 512];
-    for i in 0..64usize {
-        put_number(&mut bytes, i, cells[i]);
+    for (i, number) in cells.iter().enumerate() {
+        put_number(&mut bytes, i, *number);
     }
     bytes
 }

@@ -8,16 +8,14 @@ ghost use Rattle.frame.specs.Links.{Small};
 
 use crate::bytes::bytes_of;
 use crate::links::{swizzle, unswizzle};
-use crate::walk::has_field;
+use crate::walk::{LAST_CELL, has_field};
 use address::AddressTable;
 use page::ClosedCatalogue;
 use pageset::PageSet;
 
-const LAST_CELL: u64 = 63;
-
 // A page by its number, whether it was changed since it was loaded, its cells with addresses for links, and the pages
 // that need a slot for it: itself and those that it links to.
-#[derive(Clone, Copy)]
+#[derive(Clone, Copy, Debug, PartialEq, Eq)]
 pub struct Frame {
     pub page: u64,
     pub changed: bool,
@@ -92,9 +90,7 @@ impl Frame {
         if used > LAST_CELL {
             return None;
         }
-        let Some(descriptor) = catalogue.descriptor(header) else {
-            return None;
-        };
+        let descriptor = catalogue.descriptor(header)?;
         let last = used + 1 + descriptor.size;
         if last > LAST_CELL {
             return None;

@@ -2,7 +2,7 @@
 ghost use Rattle.frame.specs.Laws.{Pointwise, SamePlaces, SamePlacesBack, Back, Unmoved, SetField, SetPlaces, LinksAreFields, Append, AppendStarts, Kept, SetFieldBack, AppendBack, FieldOf, There, ValidEnds, ValidLinks, ValidStarts, PageBack, CellsBack};
 
 // Of pages in frames and in the store.
-pub fn swizzling_stands() -> u8
+pub fn swizzling_stands()
     ensures pointwise { Pointwise }
     ensures places { SamePlaces }
     ensures places_back { SamePlacesBack }
@@ -10,12 +10,10 @@ pub fn swizzling_stands() -> u8
     ensures unmoved { Unmoved }
     ensures kept { Kept }
     ensures there { There }
-{
-    0
-}
+{}
 
 // Of changes to a page in a frame.
-pub fn changes_stand() -> u8
+pub fn changes_stand()
     ensures field { SetField }
     ensures places { SetPlaces }
     ensures links { LinksAreFields }
@@ -24,17 +22,13 @@ pub fn changes_stand() -> u8
     ensures field_back { SetFieldBack }
     ensures append_back { AppendBack }
     ensures fields { FieldOf }
-{
-    0
-}
+{}
 
 // Of pages with no fault, and of bytes and cells.
-pub fn pages_stand() -> u8
+pub fn pages_stand()
     ensures ends { ValidEnds }
     ensures links { ValidLinks }
     ensures starts { ValidStarts }
     ensures page { PageBack }
     ensures cells { CellsBack }
-{
-    0
-}
+{}

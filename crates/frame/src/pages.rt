@@ -5,7 +5,7 @@ ghost use Rattle.page.specs.Walks.{leads, links_to};
 ghost use Rattle.pageset.specs.Sets.{holds};
 ghost use Rattle.frame.specs.Links.{unswizzled, is_page};
 
-use crate::links::{LAST_PAGE, to_pointer};
+use crate::links::unswizzle;
 use crate::walk::link_cells;
 use address::AddressTable;
 use page::ClosedCatalogue;
@@ -15,9 +15,11 @@ use pageset::PageSet;
 fn add_target(pages: &mut PageSet, link: bool, number: u64)
     ensures { (n : ℕ) → holds pages.new.words n ≡ (holds pages.old.words n || ((link && leads n number) && is_page n)) }
 {
-    let page = number / 64;
-    if link && page <= LAST_PAGE {
-        pages.add(page as u16);
+    if !link {
+        return;
+    }
+    if let Ok(page) = u16::try_from(number / 64) {
+        pages.add(page);
     }
 }
 
@@ -27,8 +29,8 @@ pub fn linked_pages(cells: &[u64; 64], catalogue: &ClosedCatalogue) -> PageSet
 {
     let links = link_cells(cells, catalogue);
     let mut pages = PageSet::new();
-    for i in 0..64usize {
-        add_target(&mut pages, links[i], cells[i]);
+    for (link, number) in links.iter().zip(cells) {
+        add_target(&mut pages, *link, *number);
     }
     pages
 }
@@ -37,10 +39,5 @@ pub fn linked_pages(cells: &[u64; 64], catalogue: &ClosedCatalogue) -> PageSet
 pub fn framed_pages(cells: &[u64; 64], table: &AddressTable, catalogue: &ClosedCatalogue) -> PageSet
     ensures { (n : ℕ) → holds result.words n ≡ (links_to (types catalogue.now) (unswizzled (types catalogue.now) table.now.page_of cells.now) n && is_page n) }
 {
-    let links = link_cells(cells, catalogue);
-    let mut pages = PageSet::new();
-    for i in 0..64usize {
-        add_target(&mut pages, links[i], to_pointer(table, links[i], cells[i]));
-    }
-    pages
+    linked_pages(&unswizzle(cells, table, catalogue), catalogue)
 }

@@ -1,19 +1,43 @@
-// A walk over the cells of a page by its headers.
-ghost use Rattle.std.specs.Prelude.{◌≡◌, ◌+◌, ◌<◌, true, false, slice_index_or};
+// A walk over the cells of a page by its headers. Cells and catalogue are given apart, as those who call hold them.
+ghost use Rattle.std.specs.Prelude.{◌≡◌, ◌+◌, ◌-◌, ◌<◌, ◌≤◌, true, false, drop, take, nat_lt, ◌&&◌, slice_index_or};
+ghost use Rattle.std.specs.List.{fold};
+ghost use Rattle.page.specs.Descriptors.{no_type};
 ghost use Rattle.page.specs.Types.{types};
-ghost use Rattle.page.specs.Walks.{kind_of, link_cells, start_cells};
-ghost use Rattle.frame.specs.Links.{has_field};
+ghost use Rattle.page.specs.Walks.{kind_of, odd, link_cells, start_cells};
+ghost use Rattle.frame.specs.Links.{has_field, fields_after};
 
 use page::{ClosedCatalogue, Descriptor};
+
+// The last cell of a page.
+pub(crate) const LAST_CELL: u64 = 63;
 
 // The type that a header names, of no fields where it names none.
 fn kind_of(catalogue: &ClosedCatalogue, header: u64) -> Descriptor
     ensures { result ≡ kind_of (types catalogue.now) header }
 {
-    match catalogue.descriptor(header) {
-        Some(descriptor) => descriptor,
-        None => Descriptor { size: 0, mask: 0 },
+    catalogue
+        .descriptor(header)
+        .unwrap_or(Descriptor { size: 0, mask: 0 })
+}
+
+// The fields of an object that are still to come after a cell; where none were, the cell is a header.
+fn fields_after(fields: Descriptor, number: u64, catalogue: &ClosedCatalogue) -> Descriptor
+    ensures { result ≡ fields_after (types catalogue.now) fields number }
+{
+    if fields.size == 0 {
+        return kind_of(catalogue, number);
     }
+    Descriptor {
+        size: fields.size - 1,
+        mask: fields.mask / 2,
+    }
+}
+
+// Whether the next cell is a field that is a link.
+fn link_next(fields: Descriptor) -> bool
+    ensures { result ≡ (nat_lt 0 fields.size && odd fields.mask) }
+{
+    fields.size > 0 && fields.mask % 2 == 1
 }
 
 // For each cell, whether it is a link.
@@ -21,21 +45,24 @@ pub(crate) fn link_cells(cells: &[u64; 64], catalogue: &ClosedCatalogue) -> [boo
     ensures { result ≡ link_cells (types catalogue.now) cells.now }
 {
     let mut links = [false; 64];
-    let mut left = 0;
-    let mut mask = 0;
-    for i in 1..64usize {
-        if left == 0 {
-            let kind = kind_of(catalogue, cells[i]);
-            left = kind.size;
-            mask = kind.mask;
-            links[i] = false;
-        } else {
-            links[i] = mask % 2 == 1;
-            left -= 1;
-            mask /= 2;
-        }
+    // the head counts as a field that is no link
+    let mut fields = Descriptor { size: 1, mask: 0 };
+    for (i, number) in cells.iter().enumerate() {
+        links[i] = link_next(fields);
+        fields = fields_after(fields, *number, catalogue);
     }
     links
+}
+
+// The fields that are still to come at a cell.
+fn fields_at(cells: &[u64; 64], catalogue: &ClosedCatalogue, cell: usize) -> Descriptor
+    requires { (0 < cell) × (cell ≤ 64) }
+    ensures { result ≡ fold (fields_after (types catalogue.now)) no_type (take (cell - 1) (drop 1 cells.now)) }
+{
+    let none = Descriptor { size: 0, mask: 0 };
+    cells[1..cell].iter().fold(none, |fields, number| {
+        fields_after(fields, *number, catalogue)
+    })
 }
 
 // Whether an object starts at the cell.
@@ -43,21 +70,11 @@ pub fn starts_at(cells: &[u64; 64], catalogue: &ClosedCatalogue, cell: u64) -> b
     ensures value { result ≡ slice_index_or (start_cells (types catalogue.now) cells.now) cell false }
     ensures within { result ≡ true → cell < 64 }
 {
-    if cell == 0 || cell > 63 {
+    if cell == 0 || cell > LAST_CELL {
         return false;
     }
-    let mut left = 0;
-    for i in 1..cell as usize {
-        if left == 0 {
-            left = kind_of(catalogue, cells[i]).size;
-        } else {
-            left -= 1;
-        }
-    }
-    if left > 0 {
-        return false;
-    }
-    catalogue.descriptor(cells[cell as usize]).is_some()
+    let i = cell as usize;
+    fields_at(cells, catalogue, i).size == 0 && catalogue.descriptor(cells[i]).is_some()
 }
 
 // Whether an object starts at the cell and has the field.
@@ -73,5 +90,5 @@ pub(crate) fn has_field(
     if !starts_at(cells, catalogue, cell) {
         return false;
     }
-    field < kind_of(catalogue, cells[cell as usize]).size && field < 63 - cell
+    field < kind_of(catalogue, cells[cell as usize]).size && field < LAST_CELL - cell
 }

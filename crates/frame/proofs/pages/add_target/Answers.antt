@@ -5,9 +5,11 @@ use Rattle.frame.specs.Links.{is_page}
 use Rattle.frame.proofs.Sets.{put_page}
 use Rattle.frame.proofs.pages.add_target.Goals as goal
 
-pub returns-then-page-le-LAST_PAGE : goal.returns-then-page-le-LAST_PAGE
-returns-then-page-le-LAST_PAGE c n =
-    let v = c.args.pages.now.words in
+pub returns-in-Ok : goal.returns-in-Ok
+returns-in-Ok c n =
+    let v = c.args.pages.now in
+    let w = c.add.new.self in
     let x = c.args.number in
-    put_page v c.add.new.self.words x n (omega arith) c.add.ensures.added c.add.ensures.others
-    ∙ ap (λ b. holds v n || ((b && leads n x) && is_page n)) (sym c.if-link.true)
+    let h = c.in-Ok.ensures in
+    put_page v.words w.words x n v.sized w.sized (λ p q. ap (holds w.words) (sym h.1) ∙ c.add.ensures.added (omega arith) (omega arith)) (λ m d. c.add.ensures.others m (λ e. d (e ∙ h.1)))
+    ∙ ap (λ b. holds v.words n || ((b && leads n x) && is_page n)) (sym c.if-not-link.false)

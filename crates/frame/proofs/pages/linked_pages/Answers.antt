@@ -1,25 +1,14 @@
-use Rattle.std.proofs.Common.{◌≡◌, ◌&&◌, length, ap, ◌∙◌, arith}
-use Rattle.std.proofs.lemmas.List.{take_all}
-use Rattle.page.specs.Types.{types}
+use Rattle.std.proofs.Common.{◌≡◌, false, ◌&&◌, ◌||◌, inl, inr, sym, ap, ◌∙◌, ⊎_elim}
 use Rattle.page.specs.Walks.{any_leads}
+use Rattle.pageset.specs.Sets.{holds}
 use Rattle.frame.specs.Links.{is_page}
-use Rattle.frame.proofs.Sets.{pages_more}
-use Rattle.frame.proofs.Walks.{length_link_cells}
+use Rattle.frame.proofs.Walks.{any_end, or_nothing}
 use Rattle.frame.proofs.pages.linked_pages.Goals as goal
-
-pub loop-i-init : goal.loop-i-init
-loop-i-init c n = c.new-pages.ensures n
-
-pub loop-i-preserved : goal.loop-i-preserved
-loop-i-preserved c n =
-    let ls = c.link_cells-links.result in
-    let xs = c.args.cells.now in
-    let long : length ls ≡ 64 = ap length c.link_cells-links.ensures ∙ length_link_cells (types c.args.catalogue.now) xs ∙ c.told-cells in
-    pages_more c.loop-i.pages.words c.add_target.new.pages.words n ls xs c.loop-i.i (omega arith) (omega arith) (c.loop-i.invariant n) (c.add_target.ensures n)
 
 pub returns : goal.returns
 returns c n =
-    let ls = c.link_cells-links.result in
-    let xs = c.args.cells.now in
-    let long : length ls ≡ 64 = ap length c.link_cells-links.ensures ∙ length_link_cells (types c.args.catalogue.now) xs ∙ c.told-cells in
-    c.loop-i.invariant n ∙ ap (λ l. any_leads n l xs && is_page n) (take_all c.loop-i.i ls (omega arith) ∙ c.link_cells-links.ensures)
+    let bs = c.loop-link.link-iterator.a.rest.now in
+    let xs = c.loop-link.link-iterator.b.rest.now in
+    let v = c.loop-link.pages.words in
+    let none : any_leads n bs xs ≡ false = ⊎_elim (λ h. any_end n bs xs (inl h.1.0)) (λ h. any_end n bs xs (inr h.1.0)) c.in-None.ensures.steps in
+    or_nothing (holds v n) ∙ ap (λ b. holds v n || (b && is_page n)) (sym none) ∙ c.loop-link.invariant n

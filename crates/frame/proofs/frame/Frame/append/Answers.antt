@@ -15,7 +15,7 @@ invariant_of-self c =
     let x = c.args.self.now in
     let u = get_or x.cells 0 0 in
     let h : c.args.header < 2 ^ 64 = search rules in
-    let l : u + 1 + c.in-Some.descriptor.size < 2 ^ 64 = omega (arith, c.if-last-gt-LAST_CELL.false) in
+    let l : u + 1 + c.in_ok-descriptor.descriptor.size < 2 ^ 64 = omega (arith, c.if-last-gt-LAST_CELL.false) in
     record { whole = length-set (set x.cells 0 _) _ _ ∙ length-set x.cells 0 _ ∙ x.whole; small = small_set (set x.cells 0 _) _ c.args.header (small_set x.cells 0 _ x.small l) h }
 
 pub returns : goal.returns
@@ -24,8 +24,8 @@ returns c =
     let ts = types c.args.catalogue.now in
     let h = c.args.header in
     let u = get_or xs 0 0 in
-    let is = found_kind ts h c.in-Some.descriptor c.in-Some.ensures.value in
-    let size : c.in-Some.descriptor.size ≡ (kind_of ts h).size = ap (λ (d : Descriptor). d.size) (sym is.1) in
+    let is = found_kind ts h c.in_ok-descriptor.descriptor c.in_ok-descriptor.ensures.value in
+    let size : c.in_ok-descriptor.descriptor.size ≡ (kind_of ts h).size = ap (λ (d : Descriptor). d.size) (sym is.1) in
     record {
       cell = sym (cond-true (room_for ts xs h) _ _ (and_from (declared ts h) _ is.0 (le-leb _ _ (omega (arith, size, c.if-last-gt-LAST_CELL.false)))));
       cells = ap (λ n. set (set xs 0 (u + 1 + n)) (u + 1) h) size;
