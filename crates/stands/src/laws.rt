@@ -2,7 +2,7 @@
 ghost use Rattle.stands.specs.Laws.{Provides, Empties, Brings, Sets, Saves, AllClean, SavesAll, Adds, Shown, Reads, Opens, Comes, Settles, LawfulEnds, SameStarts, SlotsSuffice};
 
 // Of single moves.
-pub fn laws_stand() -> u8
+pub fn laws_stand()
     ensures provides { Provides }
     ensures empties { Empties }
     ensures brings { Brings }
@@ -11,12 +11,10 @@ pub fn laws_stand() -> u8
     ensures saves { Saves }
     ensures clean { AllClean }
     ensures saves_all { SavesAll }
-{
-    0
-}
+{}
 
 // Of what is seen in frames, and of whole courses.
-pub fn courses_stand() -> u8
+pub fn courses_stand()
     ensures shown { Shown }
     ensures reads { Reads }
     ensures opens { Opens }
@@ -25,6 +23,4 @@ pub fn courses_stand() -> u8
     ensures ends { LawfulEnds }
     ensures starts { SameStarts }
     ensures slots { SlotsSuffice }
-{
-    0
-}
+{}
