@@ -191,39 +191,14 @@ module _
         }
 
     -- it was refused, and nothing changed
-    module _ (table : (slots' ≡ slots) × (page' ≡ page)) (store : st' ≡ st) (frames : fs' ≡ fs) (many : a < tally p 1024) where
-      still : Opened ts a slots page (pages st) fs slots page (pages st) fs known told c standing n (Err (fault NoAddresses 4 (on_page n)))
-      still = record {
-        fine = fine;
-        stands = refl;
-        answer = sym (opening_refused ts a G standing n bs in_graph lawful_graph (omega (arith, same_tally, many)));
-        there = tt;
-        kept = λ _ _ _. refl;
-      }
-
-      pub turned_away : Opened ts a slots page (pages st) fs slots' page' (pages st') fs' known told c standing n (Err (fault NoAddresses 4 (on_page n)))
-      turned_away =
-          let r = Err (fault NoAddresses 4 (on_page n)) in
-          subst (λ (x : List ℕ). Opened ts a slots page (pages st) fs x page' (pages st') fs' known told c standing n r) (sym table.0)
-          (subst (λ (x : List ℕ). Opened ts a slots page (pages st) fs slots x (pages st') fs' known told c standing n r) (sym table.1)
-          (subst (λ (x : Sto). Opened ts a slots page (pages st) fs slots page (pages x) fs' known told c standing n r) (sym store)
-          (subst (λ (x : List (Option Frame)). Opened ts a slots page (pages st) fs slots page (pages st) x known told c standing n r) (sym frames) still)))
-
-    module _
-        (agree : Agree page' slots') (most : Most page 1024) (most' : Most page' 1024) (long : length slots ≡ 1025) (none : get_or slots 0 0 ≡ 0) (wide : c ≤ length fs)
-        (full : length bs ≡ 512) (byte : (j : ℕ) → get_or bs j 0 < 256)
-      where
-        -- by what bringing the page in answers
-        pub ends : (r : Checked ℕ) (xs : List ℕ) → xs ≡ cells_of bs → is_ok r ≡ leb (tally p 1024) a
-            → (a < tally p 1024 → (r ≡ Err (fault NoAddresses 4 (on_page n))) × (((slots' ≡ slots) × (page' ≡ page)) × ((st' ≡ st) × (fs' ≡ fs))))
-            → IfOk r (λ i. Brought picks pages ts p a c n xs needs i page slots fs pol st slots' fs' st')
-            → Opened ts a slots page (pages st) fs slots' page' (pages st') fs' known told c standing n r
-        ends (Ok i) xs is fits refused b =
-            entered agree most most' long none wide full byte i (subst (λ (ys : List ℕ). Brought picks pages ts p a c n ys needs i page slots fs pol st slots' fs' st') is b) (leb-true (tally p 1024) a (sym fits))
-        ends (Err e) xs is fits refused b =
-            let many = leb-false (tally p 1024) a (sym fits) in
-            let z = refused many in
-            subst (λ (r : Checked ℕ). Opened ts a slots page (pages st) fs slots' page' (pages st') fs' known told c standing n r) (sym z.0) (turned_away z.1.0 z.1.1.0 z.1.1.1 many)
+    pub turned_away : a < tally p 1024 → Opened ts a slots page (pages st) fs slots page (pages st) fs known told c standing n (Err (fault NoAddresses 4 (on_page n)))
+    turned_away many = record {
+      fine = fine;
+      stands = refl;
+      answer = sym (opening_refused ts a G standing n bs in_graph lawful_graph (omega (arith, same_tally, many)));
+      there = tt;
+      kept = λ _ _ _. refl;
+    }
 
 pub whole_bytes : (ps : List Page) (n : ℕ) (bs : List ℕ) → (page_at ps n).content ≡ bytes bs → Whole (page_at ps n).content → length bs ≡ 512
 whole_bytes ps n bs e w = subst (λ (x : Content). Whole x) e w

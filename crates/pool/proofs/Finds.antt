@@ -1,6 +1,10 @@
 -- An opening that finds the page in a frame, and one that reads it first. Assumes nothing.
-use Rattle.std.proofs.Common.{◌≡◌, ℕ, ◌<◌, ◌≤◌, Bool, true, cond, ◌||◌, eqb, leb, List, [], length, Ok, Err, Option, sym, refl, ap, ◌∙◌, subst, ⊎_elim, arith}
-use Rattle.std.proofs.lemmas.Bool.{or_cases, eq-eqb}
+use Rattle.std.proofs.Common.{◌≡◌, ℕ, ◌<◌, ◌≤◌, Bool, true, false, cond, ◌||◌, eqb, leb, List, [], length, get_or, Some, None, Ok, Err, Option, sym, refl, ap, ◌∙◌, subst, ⊎_elim, arith}
+use Rattle.std.proofs.lemmas.Bool.{both_ways, cases_Bool, or_cases, eq-eqb, eqb-true, ltb-false}
+use Rattle.std.proofs.lemmas.List.Quantifiers.{position-Some}
+use Rattle.std.proofs.lemmas.Option.{none-some}
+use Rattle.std.proofs.lemmas.List.Sums.{fails_before_first}
+use Rattle.std.specs.List.{position, position_or_len}
 use Rattle.fault.specs.declared.kinds.Cause.TheVariants.{NoAddresses, NoPage, WrongLength}
 use Rattle.fault.specs.declared.kinds.Fault.{Fault}
 use Rattle.fault.specs.Faults.{on_page, nowhere, fault, mark}
@@ -18,13 +22,34 @@ use Rattle.store.specs.Pages.{Content, bytes, marked, Whole, Page, page_at, is_p
 use Rattle.store.specs.Rules.{readable, held_by, read_buffer}
 use Rattle.stands.specs.Frames.{HasAt, Lacks, long_cells, long_bytes, stands_for}
 use Rattle.stands.proofs.Courses.{shown}
+use Rattle.stands.proofs.Layers.{has_within}
 use Rattle.stands.proofs.Slots.{slots_suffice}
+use Rattle.pool.specs.Looking.{is_in}
 use Rattle.pool.specs.Needs.{needed, Covers}
 use Rattle.pool.specs.Meaning.{Fine}
 use Rattle.pool.specs.Fetching.{fetch_answer}
 use Rattle.pool.specs.Opening.{wanted_with, held_bytes, Opened, Incoming}
 use Rattle.pool.proofs.Opens.{cells_long, needed_at}
 use Rattle.pool.proofs.Enters.{opening_granted}
+
+holds_page : (n : ℕ) (o : Option Frame) → is_in n o ≡ true → (f : Frame) × ((o ≡ Some f) × (f.page ≡ n))
+holds_page n None e = absurd (both_ways false refl e)
+holds_page n (Some f) e = (f, (refl, eqb-true f.page n e))
+
+-- the frame that a search finds holds the page
+pub found_at : (fs : List (Option Frame)) (n i : ℕ) → position (is_in n) fs ≡ Some i → (f : Frame) × (HasAt fs i f × (f.page ≡ n))
+found_at fs n i e = holds_page n (get_or fs i None) (position-Some (is_in n) fs i None e).1
+
+nowhere_none : (b : Bool) (k : ℕ) → cond b (Some k) None ≡ None → b ≡ false
+nowhere_none true k e = absurd (none-some k (sym e))
+nowhere_none false k e = refl
+
+-- and where it finds none, none does
+pub found_none : (fs : List (Option Frame)) (n : ℕ) → position (is_in n) fs ≡ None → Lacks fs n
+found_none fs n e i f h is =
+    let past = ltb-false (position_or_len (is_in n) fs) (length fs) (nowhere_none _ _ e) in
+    let here = has_within fs i f h in
+    both_ways (is_in n (get_or fs i None)) (fails_before_first (is_in n) fs i None (omega (arith, past, here))) (ap (is_in n) h ∙ eq-eqb f.page n is)
 
 -- the page is in a frame: its slots were counted when it came
 module _
@@ -120,28 +145,16 @@ module _ (layer : ℕ) (ts : List Descriptor) (ps : List Page) (n : ℕ) (buffer
         kept = λ _ _ _. refl;
       }
 
--- an opening from a state with equal parts
-module _ (slots' page' : List ℕ) (ps' : List Page) (fs' : List (Option Frame)) (told count : ℕ) (standing : ℕ → Bool) (n : ℕ) (bs : List ℕ) (r : Checked ℕ) where
-  abbrev pub Course : ClosedCatalogue → AddressTable → List Page → List (Option Frame) → ℕ → ℕ → ℕ → Type 0
-  Course cat tab ps fs known t c = Fine (types cat) tab.slot_of tab.page_of ps fs known t c → Incoming (types cat) ps fs n bs → Opened (types cat) tab.slots tab.slot_of tab.page_of ps fs slots' page' ps' fs' known t c standing n r
+no_fetch : (b : Bool) (x y : Fault) (r s : Checked (Unit {0})) → (((b else x) >> ((false else y) >> r)) >> s) ≡ Ok tt → ⊥
+no_fetch true x y r s e = let z : ◌≡◌ {A = ℕ} 0 1 = cc in omega arith
+no_fetch false x y r s e = let z : ◌≡◌ {A = ℕ} 0 1 = cc in omega arith
 
-  pub course_from : (cat cat₁ : ClosedCatalogue) (tab tab₁ : AddressTable) (ps ps₁ : List Page) (fs fs₁ : List (Option Frame)) (known known₁ t t₁ c c₁ : ℕ)
-      → cat₁ ≡ cat → tab₁ ≡ tab → ps₁ ≡ ps → fs₁ ≡ fs → known₁ ≡ known → t₁ ≡ t → c₁ ≡ c → Course cat₁ tab₁ ps₁ fs₁ known₁ t₁ c₁ → Course cat tab ps fs known t c
-  course_from cat cat₁ tab tab₁ ps ps₁ fs fs₁ known known₁ t t₁ c c₁ e0 e1 e2 e3 e4 e5 e6 x =
-      subst (λ (y : ClosedCatalogue). Course y tab ps fs known t c) e0
-      (subst (λ (y : AddressTable). Course cat₁ y ps fs known t c) e1
-      (subst (λ (y : List Page). Course cat₁ tab₁ y fs known t c) e2
-      (subst (λ (y : List (Option Frame)). Course cat₁ tab₁ ps₁ y known t c) e3
-      (subst (λ y. Course cat₁ tab₁ ps₁ fs₁ y t c) e4
-      (subst (λ y. Course cat₁ tab₁ ps₁ fs₁ known₁ y c) e5
-      (subst (λ y. Course cat₁ tab₁ ps₁ fs₁ known₁ t₁ y) e6 x))))))
-
--- an opening to a state with equal parts
-pub opened_to : (ts : List Descriptor) (a : ℕ) (tab tab₁ : AddressTable) (ps ps₁ : List Page) (fs fs₁ : List (Option Frame)) (known told count : ℕ) (standing : ℕ → Bool) (n : ℕ) (r r₁ : Checked ℕ)
-    → tab₁ ≡ tab → ps₁ ≡ ps → fs₁ ≡ fs → r₁ ≡ r → Opened ts a tab.slot_of tab.page_of ps fs tab.slot_of tab.page_of ps fs known told count standing n r
-    → Opened ts a tab.slot_of tab.page_of ps fs tab₁.slot_of tab₁.page_of ps₁ fs₁ known told count standing n r₁
-opened_to ts a tab tab₁ ps ps₁ fs fs₁ known told count standing n r r₁ e0 e1 e2 e3 x =
-    subst (λ (y : Checked ℕ). Opened ts a tab.slot_of tab.page_of ps fs tab₁.slot_of tab₁.page_of ps₁ fs₁ known told count standing n y) (sym e3)
-    (subst (λ (y : AddressTable). Opened ts a tab.slot_of tab.page_of ps fs y.slot_of y.page_of ps₁ fs₁ known told count standing n r) (sym e0)
-    (subst (λ (y : List Page). Opened ts a tab.slot_of tab.page_of ps fs tab.slot_of tab.page_of y fs₁ known told count standing n r) (sym e1)
-    (subst (λ (y : List (Option Frame)). Opened ts a tab.slot_of tab.page_of ps fs tab.slot_of tab.page_of ps y known told count standing n r) (sym e2) x)))
+-- what can be read is a page
+pub fetched_page : (layer : ℕ) (ts : List Descriptor) (ps : List Page) (n known : ℕ) (buffer : List ℕ) → fetch_answer layer ts known ps n buffer ≡ Ok tt → is_page ps n ≡ true
+fetched_page layer ts ps n known buffer e =
+    ⊎_elim
+    (λ (a : is_page ps n ≡ true). a)
+    (λ (a : is_page ps n ≡ false).
+    absurd (no_fetch (eqb (length buffer) 512) (fault WrongLength layer nowhere) (fault NoPage layer (on_page n)) (readable (page_at ps n).content n) (examined known n (read_buffer ps n buffer) ts)
+    (ap (λ p. (((eqb (length buffer) 512) else fault WrongLength layer nowhere) >> ((p else fault NoPage layer (on_page n)) >> readable (page_at ps n).content n)) >> examined known n (read_buffer ps n buffer) ts) (sym a) ∙ e)))
+    (cases_Bool (is_page ps n))

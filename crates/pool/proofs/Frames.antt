@@ -1,7 +1,7 @@
 -- What the frames need, and what giving one up leaves. Assumes nothing.
 use Rattle.std.proofs.Common.{◌≡◌, ℕ, zero, suc, ◌+◌, ◌<◌, ◌≤◌, Bool, true, false, cond, ◌||◌, ◌⊎◌, List, [], ◌∷◌, ◌++◌, map, length, get_or, take, set, replicate, is_some, Some, None, count_by, Option, sym, refl, ap, ◌∙◌, subst, inl, inr, ⊎_elim, arith, get_or-set_other}
 use Rattle.std.proofs.lemmas.List.Sums.{sum_by-set}
-use Rattle.std.proofs.lemmas.List.{take_more, ext_get_or, length-map, get_or-map}
+use Rattle.std.proofs.lemmas.List.{take_more, length-map, get_or-map, get_or_past}
 use Rattle.std.proofs.lemmas.Bool.{cases_lt, both_ways, or_cases, or_left, or_right, or_from}
 use Rattle.pageset.specs.Sets.{holds, tally}
 use Rattle.address.specs.declared.table.AddressTable.{AddressTable}
@@ -110,9 +110,13 @@ stuck fs occ f size v e a same spare not k =
     (cases_lt k f))
     (cases_lt v f)
 
--- marks of the occupied frames
-pub held_marks : (fs : List (Option Frame)) (occ : List Bool) → length occ ≡ length fs → ((k : ℕ) → get_or occ k false ≡ is_some (get_or fs k None)) → occ ≡ map is_some fs
-held_marks fs occ l same = ext_get_or false occ (map is_some fs) (l ∙ sym (length-map fs is_some)) (λ k h. same k ∙ sym (get_or-map is_some fs k None false (omega (arith, l, h))))
+pub marks_at : (fs : List (Option Frame)) (occ : List Bool) → occ ≡ map is_some fs → (k : ℕ) → get_or occ k false ≡ is_some (get_or fs k None)
+marks_at fs occ e k =
+    ap (λ (xs : List Bool). get_or xs k false) e
+    ∙ ⊎_elim
+    (λ (l : k < length fs). get_or-map is_some fs k None false l)
+    (λ (l : length fs ≤ k). get_or_past (map is_some fs) k false (omega (arith, length-map fs is_some, l)) ∙ sym (ap (λ (x : Option Frame). is_some x) (get_or_past fs k None l)))
+    (cases_lt k (length fs))
 
 -- where all frames are empty there is room
 pub enough_empty : (p : ℕ → Bool) (a f : ℕ) (fs : List (Option Frame)) → ((k : ℕ) → Empty fs k) → 0 < f → tally p 1024 ≤ a → Enough p a f fs

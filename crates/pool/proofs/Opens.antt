@@ -37,7 +37,7 @@ needed_at [] j m f h e = let z : ◌≡◌ {A = ℕ} 0 1 = cc in absurd (omega a
 needed_at (x ∷ fs) zero m f h e = or_left (asks x m) (needed fs m) (ap (λ (y : Option Frame). asks y m) h ∙ e)
 needed_at (x ∷ fs) (suc j) m f h e = or_right (asks x m) (needed fs m) (needed_at fs j m f h e)
 
-set_none_sub : (fs : List (Option Frame)) (v j : ℕ) (f : Frame) → HasAt (set fs v None) j f → HasAt fs j f
+pub set_none_sub : (fs : List (Option Frame)) (v j : ℕ) (f : Frame) → HasAt (set fs v None) j f → HasAt fs j f
 set_none_sub [] v j f h = h
 set_none_sub (x ∷ fs) zero zero f h = let z : ◌≡◌ {A = ℕ} 0 1 = cc in absurd (omega arith)
 set_none_sub (x ∷ fs) zero (suc j) f h = h

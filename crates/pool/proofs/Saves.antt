@@ -13,14 +13,14 @@ use Rattle.store.specs.Pages.{Page}
 use Rattle.store.specs.Rules.{written}
 use Rattle.stands.specs.Frames.{HasAt, Is, long_cells, long_bytes, stands_for}
 use Rattle.stands.proofs.Courses.{shown}
-use Rattle.stands.proofs.Stands.{each_some, saves, clean_all}
+use Rattle.stands.proofs.Stands.{each_some, empties, saves, clean_all}
 use Rattle.stands.proofs.Layers.{some_inj, none_some, has_within}
 use Rattle.pool.specs.Needs.{needed, Covers}
 use Rattle.pool.specs.Leaving.{Empty, put_back}
 use Rattle.pool.specs.Meaning.{Fine}
 use Rattle.pool.specs.Saving.{Clean, Saved}
 use Rattle.pool.proofs.Frames.{needed_set}
-use Rattle.pool.proofs.Opens.{needed_at, back_is}
+use Rattle.pool.proofs.Opens.{needed_at, set_none_sub, back_is}
 
 -- an occupied frame is one of the first
 pub held_below : (fs : List (Option Frame)) (c k : ℕ) (f : Frame) → ((j : ℕ) → c ≤ j → Empty fs j) → HasAt fs k f → k < c
@@ -109,3 +109,23 @@ clean_more fs fs' k c before here =
     below_more (λ j. (f : Frame) → HasAt fs' j f → f.changed ≡ false) k
     (λ j l f h. before j l f (sym (c.others j (λ e. omega (arith, e, l))) ∙ h))
     here
+
+-- a pool's tie stays where the store means the same pages and the policy was told the same number
+pub tied_same : (ts : List Descriptor) (slots page : List ℕ) (ps ps' : List Page) (fs : List (Option Frame)) (known told told' count : ℕ) → ps' ≡ ps → told' ≡ told → Fine ts slots page ps fs known told count → Fine ts slots page ps' fs known told' count
+tied_same ts slots page ps ps' fs known told told' count same kept fine =
+    subst (λ (x : List Page). Fine ts slots page x fs known told' count) (sym same)
+    (subst (λ (x : ℕ). Fine ts slots page ps fs known x count) (sym kept) fine)
+
+-- and where a frame is given up
+pub tied_less : (ts : List Descriptor) (slots page : List ℕ) (ps ps' : List Page) (fs : List (Option Frame)) (known told told' count v : ℕ) (f : Frame) → HasAt fs v f → ps' ≡ put_back ts page (Some f) ps → told' ≡ told → Fine ts slots page ps fs known told count → Fine ts slots page ps' (set fs v None) known told' count
+tied_less ts slots page ps ps' fs known told told' count v f h noted kept fine =
+    let qs = cond f.changed (written ps f.page (long_bytes ts page f)) ps in
+    let keeps = empties ts slots page ps fs v f fine.sound h in
+    let len : length qs ≡ length ps = sym (shown ts slots page qs (set fs v None) keeps.sound).many ∙ ap length keeps.stands ∙ (shown ts slots page ps fs fine.sound).many in
+    tied_same ts slots page qs ps' (set fs v None) known told told' count (noted ∙ back_is ts slots page ps fs v f fine.sound h) kept (record {
+      sound = keeps.sound;
+      counted = fine.counted ∙ sym len;
+      policy = fine.policy;
+      lawful = λ j g hg. ap (λ m. first_fault m g.page (long_bytes ts page g) ts) len ∙ fine.lawful j g (set_none_sub fs v j g hg);
+      needs = λ j g hg. fine.needs j g (set_none_sub fs v j g hg);
+    })

@@ -16,12 +16,12 @@ use Rattle.pool.specs.Bringing.{Brought}
 use Rattle.pool.specs.Opening.{wanted_with}
 use Rattle.pool.specs.declared.pool.Pool.{Pool}
 
-module _ {S V : Type 0} {stores : StoreGhosts S} {policies : PolicyGhosts V} (picks : V → List Bool → ℕ → V → Type 0) (touches : V → ℕ → V → Type 0) (pages : S → List Page) where
+module _ {S V : Type 0} {stores : StoreGhosts S} {policies : PolicyGhosts V} where
   -- table, frames and the store's pages are these
   pub record Still (tab : AddressTable) (fs : List (Option Frame)) (ps : List Page) (t : Pool S V stores policies) : Type 0 where
     pub table : t.table ≡ tab
     pub frames : t.frames ≡ fs
-    pub store : pages t.store ≡ ps
+    pub store : stores.pages t.store ≡ ps
 
   -- of a pool with this catalogue, table, frames, policy and pages, where the pages of a set keep their slots
   module _ (cat : ClosedCatalogue) (tab : AddressTable) (fs : List (Option Frame)) (count : ℕ) (pol : V) (ps : List Page) (standing : ℕ → Bool) where
@@ -33,19 +33,19 @@ module _ {S V : Type 0} {stores : StoreGhosts S} {policies : PolicyGhosts V} (pi
       pub asked : ℕ → Bool
       pub wanted : (m : ℕ) → 0 < m → m ≤ 1024 → asked m ≡ wanted_with (types cat) standing n held m
       pub read : S
-      pub same : pages read ≡ ps
+      pub same : stores.pages read ≡ ps
       pub needs : PageSet
-      pub brought : Brought picks pages (types cat) asked tab.slots count n (cells_of held) needs i tab.page_of tab.slot_of fs pol read t.table.slot_of t.frames t.store
-      pub told : touches brought.last i t.policy
+      pub brought : Brought policies.picks stores.pages (types cat) asked tab.slots count n (cells_of held) needs i tab.page_of tab.slot_of fs pol read t.table.slot_of t.frames t.store
+      pub told : policies.touches brought.last i t.policy
 
     -- opening page n leads to the pool t, and answers the page's frame or a refusal
     pub data Course (n : ℕ) (t : Pool S V stores policies) : Checked ℕ → Type 0 where
       -- it was in frame i already, which the policy is told
-      resident : (i : ℕ) (f : Frame) → HasAt fs i f → f.page ≡ n → Still tab fs ps t → touches pol i t.policy → Course n t (Ok i)
+      resident : (i : ℕ) (f : Frame) → HasAt fs i f → f.page ≡ n → Still tab fs ps t → policies.touches pol i t.policy → Course n t (Ok i)
       arrived : (i : ℕ) → Arrived n t i → Course n t (Ok i)
       -- no victim left, and the policy is told nothing
       refused : (e : Fault) → Still tab fs ps t → t.policy ≡ pol → Course n t (Err e)
 
   -- opening page n leads from the pool s to the pool t
   abbrev pub Opens : (ℕ → Bool) → ℕ → Pool S V stores policies → Pool S V stores policies → Checked ℕ → Type 0
-  Opens standing n s t r = Course s.catalogue s.table s.frames s.count s.policy (pages s.store) standing n t r
+  Opens standing n s t r = Course s.catalogue s.table s.frames s.count s.policy (stores.pages s.store) standing n t r

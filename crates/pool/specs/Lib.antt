@@ -7,3 +7,4 @@ pub mod Fetching
 pub mod Saving
 pub mod Looking
 pub mod Courses
+pub mod Pools

@@ -2,16 +2,13 @@
 ghost use Rattle.std.specs.Prelude.{◌≡◌, None, slice_index_or};
 ghost use Rattle.page.specs.Types.{types};
 ghost use Rattle.pool.specs.Leaving.{put_back};
-ghost use Rattle.pool.specs.Meaning.{Fine};
-ghost use Rattle.pool.specs.Saving.{Clean, Saved};
+ghost use Rattle.pool.specs.Pools.{Rest, SavedTo};
+ghost use Rattle.pool.specs.Saving.{Clean};
 
 use crate::pool::Pool;
 use crate::pool::room::write_back;
-use policy::Policy;
+use policy::{MOST_FRAMES, Policy};
 use store::Store;
-
-// No frame.
-const NONE: usize = 16;
 
 impl<S: Store, V: Policy> Pool<S, V> {
     // Writes the page in frame k back if it was changed.
@@ -19,16 +16,9 @@ impl<S: Store, V: Policy> Pool<S, V> {
         ensures noted { S.Store.pages self.new.store ≡ put_back (types self.old.catalogue) self.old.table.page_of (slice_index_or self.old.frames k None) (S.Store.pages self.old.store) }
         ensures frames { Clean self.old.frames self.new.frames k }
         ensures policy { self.new.policy ≡ self.old.policy }
-        ensures table { self.new.table ≡ self.old.table }
-        ensures catalogue { self.new.catalogue ≡ self.old.catalogue }
-        ensures count { self.new.count ≡ self.old.count }
-        ensures pages { self.new.pages ≡ self.old.pages }
+        ensures rest { Rest self.old self.new }
     {
-        if k >= NONE {
-            return;
-        }
-        let held = self.frames[k];
-        if let Some(mut frame) = held {
+        if let Some(mut frame) = self.held(k) {
             write_back(&mut self.store, &frame, &self.table, &self.catalogue);
             frame.changed = false;
             self.frames[k] = Some(frame);
@@ -37,14 +27,12 @@ impl<S: Store, V: Policy> Pool<S, V> {
 
     // Writes all changed pages back. The store then has what is stood for.
     pub fn save(&mut self)
-        ensures saved { Fine (types self.old.catalogue) self.old.table.slot_of self.old.table.page_of (S.Store.pages self.old.store) self.old.frames self.old.pages (V.Policy.frames self.old.policy) self.old.count → Saved (types self.old.catalogue) self.old.table.slot_of self.old.table.page_of (S.Store.pages self.old.store) self.old.frames (S.Store.pages self.new.store) self.new.frames self.old.pages (V.Policy.frames self.old.policy) self.old.count }
+        ensures saved { SavedTo self.old self.new }
         ensures policy { self.new.policy ≡ self.old.policy }
-        ensures table { self.new.table ≡ self.old.table }
-        ensures catalogue { self.new.catalogue ≡ self.old.catalogue }
-        ensures count { self.new.count ≡ self.old.count }
-        ensures pages { self.new.pages ≡ self.old.pages }
+        ensures rest { Rest self.old self.new }
     {
-        for k in 0..16usize {
+        // each turn writes to the store beside the frame, so it goes by the frame's number
+        for k in 0..MOST_FRAMES {
             self.save_frame(k);
         }
     }

@@ -1,8 +1,6 @@
 // A pool begins with all frames empty and all slots free.
 ghost use Rattle.std.specs.Prelude.{◌≡◌, min, max, replicate, None};
-ghost use Rattle.page.specs.Types.{types};
-ghost use Rattle.stands.specs.Frames.{stands_for};
-ghost use Rattle.pool.specs.Meaning.{Fine};
+ghost use Rattle.pool.specs.Pools.{stood_for};
 
 use crate::pool::Pool;
 use address::AddressTable;
@@ -19,8 +17,7 @@ impl<S: Store, V: Policy> Pool<S, V> {
         addresses: u16,
         frames: usize,
     ) -> Self
-        ensures fine { Fine (types catalogue) result.table.slot_of result.table.page_of (S.Store.pages result.store) result.frames result.pages (V.Policy.frames result.policy) result.count }
-        ensures stands { stands_for (types catalogue) result.table.page_of (S.Store.pages result.store) result.frames ≡ S.Store.pages store }
+        ensures stands { stood_for result ≡ S.Store.pages store }
         ensures catalogue { result.catalogue ≡ catalogue }
         ensures slots { result.table.slots ≡ min addresses 256 }
         ensures free { result.table.slot_of ≡ replicate 1025 0 }
@@ -35,7 +32,7 @@ impl<S: Store, V: Policy> Pool<S, V> {
             policy,
             catalogue,
             table: AddressTable::new(addresses),
-            frames: [None; 16],
+            frames: [None; MOST_FRAMES],
             count,
             pages,
         }

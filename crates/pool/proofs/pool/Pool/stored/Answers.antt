@@ -1,35 +1,18 @@
-use Rattle.std.proofs.Common.{ℕ, ◌+◌, cond, get_or, None, sym, ap, ◌∙◌, arith}
+use Rattle.std.proofs.Common.{ℕ, ◌+◌, cond, get_or, ap, ◌∙◌}
 use Rattle.page.specs.Descriptors.{linked}
-use Rattle.page.specs.Form.{type_at}
 use Rattle.page.specs.Types.{types}
 use Rattle.page.specs.declared.descriptor.Descriptor.{Descriptor}
 use Rattle.frame.specs.Links.{pointer}
-use Rattle.frame.specs.declared.frame.Frame.{Frame}
-use Rattle.stands.specs.Frames.{long_bytes}
-use Rattle.stands.proofs.Layers.{some_inj}
 use Rattle.pool.proofs.Looks.{field_within, field_stored}
 use Rattle.pool.proofs.pool.Pool.stored.Goals as goal
-use Rattle.pool.proofs.pool.Pool.stored.Goals.{then-cell-gt-LAST_CELL-via-then-cell-gt-LAST_CELL, then-cell-gt-LAST_CELL-via-else-cell-gt-LAST_CELL+then-field-cell}
 
-pub returns-in-Some : goal.returns-in-Some
-returns-in-Some g c fine f h e l =
+pub returns : goal.returns
+returns g c f h e l =
     let s = c.args.self.now in
     let n : ℕ = c.args.cell in
     let i : ℕ = c.args.field in
-    let is = some_inj (get_or s.frames c.args.k None) c.in-Some.frame f (sym c.held.ensures ∙ c.in-Some.is) h in
-    let page = s.table.page_of in
-    let ts = types s.catalogue in
-    let y : ℕ = get_or c.in-Some.frame.cells (n + 1 + i) 0 in
+    let y : ℕ = get_or f.cells (n + 1 + i) 0 in
     c.to_pointer.ensures
-    ∙ ap (λ b. cond b (pointer page y) y) (c.is_link.ensures ∙ ap (λ (d : Descriptor). linked d i) (c.kind.ensures fine f h e))
-    ∙ ap (λ (x : Frame). cond (linked (type_at ts (long_bytes ts page f) n) i) (pointer page (get_or x.cells (n + 1 + i) 0)) (get_or x.cells (n + 1 + i) 0)) is
-    ∙ field_stored (types s.catalogue) s.table.slot_of page (g.S.Store.pages s.store) s.frames s.pages (g.V.Policy.frames s.policy) s.count fine s.table.within.1.1.0 c.args.k f h n i e l
-
-pub returns-then-cell-gt-LAST_CELL : goal.returns-then-cell-gt-LAST_CELL
-returns-then-cell-gt-LAST_CELL g c fine f h e l =
-    let s = c.args.self.now in
-    let w = field_within (types s.catalogue) s.table.slot_of s.table.page_of (g.S.Store.pages s.store) s.frames s.pages (g.V.Policy.frames s.policy) s.count fine s.table.within.1.1.0 c.args.k f h c.args.cell c.args.field e l in
-    elim c.then-cell-gt-LAST_CELL.branch [
-      | then-cell-gt-LAST_CELL-via-then-cell-gt-LAST_CELL x ↦ absurd (omega (arith, w, x.if-cell-gt-LAST_CELL.true))
-      | then-cell-gt-LAST_CELL-via-else-cell-gt-LAST_CELL+then-field-cell x ↦ absurd (omega (arith, w, x.if-cell-gt-LAST_CELL.false, x.if-field-cell.true))
-    ]
+    ∙ ap (λ x. cond c.is_link-link.result (pointer s.table.page_of x) x) (c.in_field.ensures f h (field_within (types s.catalogue) s.table.slot_of s.table.page_of (g.S.Store.pages s.store) s.frames s.pages (g.V.Policy.frames s.policy) s.count s.tied s.table.within.1.1.0 c.args.k f h n i e l))
+    ∙ ap (λ b. cond b (pointer s.table.page_of y) y) (c.is_link-link.ensures ∙ ap (λ (d : Descriptor). linked d i) (c.kind.ensures f h e))
+    ∙ field_stored (types s.catalogue) s.table.slot_of s.table.page_of (g.S.Store.pages s.store) s.frames s.pages (g.V.Policy.frames s.policy) s.count s.tied s.table.within.1.1.0 c.args.k f h n i e l

@@ -3,5 +3,5 @@ use Rattle.pageset.specs.Sets.{holds}
 use Rattle.pool.specs.Needs.{needed}
 use Rattle.pool.proofs.pool.Pool.whole.Given as goal
 
-abbrev pub invariant-loop-k : goal.invariant-loop-k
-invariant-loop-k g l = (n : ℕ) → holds l.pages.words n ≡ (holds l.asked.words n || needed (take l.k l.self.frames) n)
+abbrev pub invariant-loop-held : goal.invariant-loop-held
+invariant-loop-held g l = (n : ℕ) → holds l.pages.words n ≡ (holds l.asked.words n || needed (take l.held-index l.self.frames) n)
