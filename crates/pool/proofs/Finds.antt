@@ -1,5 +1,5 @@
 -- An opening that finds the page in a frame, and one that reads it first. Assumes nothing.
-use Rattle.std.proofs.Common.{◌≡◌, ℕ, ◌<◌, ◌≤◌, Bool, true, false, cond, ◌||◌, eqb, leb, List, [], length, get_or, Some, None, Ok, Err, Option, sym, refl, ap, ◌∙◌, subst, ⊎_elim, arith}
+use Rattle.std.proofs.Common.{◌≡◌, ℕ, ◌<◌, ◌≤◌, Bool, true, false, cond, ◌||◌, eqb, leb, List, [], length, get_or, Some, None, Ok, Err, Option, sym, refl, ap, ◌∙◌, ⊎_elim, arith}
 use Rattle.std.proofs.lemmas.Bool.{both_ways, cases_Bool, or_cases, eq-eqb, eqb-true, ltb-false}
 use Rattle.std.proofs.lemmas.List.Quantifiers.{position-Some}
 use Rattle.std.proofs.lemmas.Option.{none-some}
@@ -11,11 +11,8 @@ use Rattle.fault.specs.Faults.{on_page, nowhere, fault, mark}
 use Rattle.fault.specs.Refusals.{Checked, ◌>>=◌, ◌>>◌, ◌else◌}
 use Rattle.pageset.specs.Sets.{holds, tally}
 use Rattle.address.specs.Pairing as pairing
-use Rattle.address.specs.declared.table.AddressTable.{AddressTable}
 use Rattle.page.specs.Form.{first_fault, examined}
-use Rattle.page.specs.Types.{types}
 use Rattle.page.specs.Walks.{cells_of, links_to}
-use Rattle.page.specs.declared.catalogue.ClosedCatalogue.{ClosedCatalogue}
 use Rattle.page.specs.declared.descriptor.Descriptor.{Descriptor}
 use Rattle.frame.specs.declared.frame.Frame.{Frame}
 use Rattle.store.specs.Pages.{Content, bytes, marked, Whole, Page, page_at, is_page}

@@ -2,7 +2,6 @@
 use Rattle.std.specs.Prelude.{◌≡◌, ℕ, ◌<◌, ◌≤◌, ◌||◌, List, length, Ok, Option, ◌==◌}
 use Rattle.pageset.specs.Sets.{holds}
 use Rattle.page.specs.Form.{first_fault}
-use Rattle.page.specs.Types.{types}
 use Rattle.page.specs.Walks.{links_to}
 use Rattle.page.specs.declared.descriptor.Descriptor.{Descriptor}
 use Rattle.frame.specs.declared.frame.Frame.{Frame}

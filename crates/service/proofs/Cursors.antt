@@ -6,7 +6,7 @@ use Rattle.pageset.specs.Sets.{holds}
 use Rattle.pageset.proofs.Members.{holds_zero}
 use Rattle.frame.specs.Links.{is_page}
 use Rattle.frame.proofs.Walks.{or_nothing}
-use Rattle.graph.specs.declared.calls.Position.{Position}
+use Rattle.page.specs.declared.link.Position.{Position}
 use Rattle.graph.specs.Graphs.{on_cursor}
 use Rattle.service.specs.Inner.{on}
 

@@ -1,6 +1,8 @@
 -- How a call comes to a field. Assumes nothing.
-use Rattle.std.proofs.Common.{◌≡◌, ℕ, ◌<◌, Bool, true, false, not, ltb, List, get_or, Some, None, Ok, Err, Option, sym, refl, ap, ◌∙◌, subst, arith}
+use Rattle.std.proofs.Common.{◌≡◌, ℕ, ◌<◌, Bool, true, false, not, ltb, List, get_or, Some, None, Ok, Err, Option, Result, sym, refl, ap, ◌∙◌, subst, arith}
 use mathlib.Core.Bool.{beq}
+use Rattle.std.specs.Result.{MatchResult, IsErrAnd}
+use Rattle.std.proofs.lemmas.Result.{err_from_is_err_and}
 use Rattle.std.proofs.lemmas.Bool.{and_from, both_ways, le-leb, lt-ltb}
 use Rattle.fault.specs.declared.kinds.Cause.TheVariants.{EmptyCursor, NoField, WrongKind}
 use Rattle.fault.specs.declared.kinds.Fault.{Fault}
@@ -12,21 +14,21 @@ use Rattle.page.specs.Types.{types}
 use Rattle.page.specs.declared.catalogue.ClosedCatalogue.{ClosedCatalogue}
 use Rattle.page.specs.declared.descriptor.Descriptor.{Descriptor}
 use Rattle.frame.specs.declared.frame.Frame.{Frame}
-use Rattle.store.specs.Pages.{Page, is_page}
+use Rattle.store.specs.Pages.{is_page}
 use Rattle.stands.specs.Frames.{HasAt, long_bytes}
-use Rattle.graph.specs.declared.calls.Position.{Position}
+use Rattle.page.specs.declared.link.Position.{Position}
 use Rattle.graph.specs.Graphs.{opening}
 use Rattle.graph.specs.Steps as steps
 use Rattle.graph.specs.Steps.{starts_at}
 use Rattle.graph.proofs.Grants.{Grants, given}
 use Rattle.graph.proofs.Kept.{begins_in}
 use Rattle.graph.proofs.Opens.{opens as opens-lawful}
-use Rattle.pool.specs.Meaning.{Tied}
 use Rattle.pool.specs.Opening.{held_bytes}
 use Rattle.pool.proofs.Enters.{is_there}
 use Rattle.service.specs.Calls.{Moves, rests, opens}
 use Rattle.service.specs.Inner.{asks, bytes_in, Object, Came, Reached}
-use Rattle.service.specs.Serving.{setting_of, graph_of, InOrder, Kept}
+use Rattle.service.proofs.Holds.{on_objects}
+use Rattle.service.specs.Serving.{setting_of, graph_of, Kept}
 use Rattle.service.specs.declared.service.Service.{Service}
 use Rattle.store.specs.declared.Store.{Ghosts as StoreGhosts}
 use Rattle.policy.specs.declared.Policy.{Ghosts as PolicyGhosts}
@@ -57,6 +59,21 @@ else_yes false e h = let z : ◌≡◌ {A = ℕ} 0 1 = cc in absurd (omega arith
 pub ok_err : {A : Type 0} (x : A) (e : Fault) → ◌≡◌ {A = Checked A} (Err e) (Ok x) → ⊥
 ok_err x e h = let z : ◌≡◌ {A = ℕ} 0 1 = cc in omega arith
 
+-- a result whose fault is another's, changed by h
+pub err_mapped : {T E D : Type 0} (r : Result T E) (q : Result T D) (R : E → D → Type 0) (h : E → D) (d : D) → q ≡ Err d → MatchResult r (λ x. q ≡ Ok x) (λ e. IsErrAnd q (R e)) → ((e : E) (y : D) → R e y → y ≡ h e) → (e : E) × ((r ≡ Err e) × (d ≡ h e))
+err_mapped (Ok x) q R h d is m k = let z : ◌≡◌ {A = ℕ} 0 1 = cc in absurd (omega arith)
+err_mapped (Err e) q R h d is m k =
+    let w = err_from_is_err_and q m in
+    let same : d ≡ w.0 = let e1 = w.1 in cc in
+    (e, (refl, same ∙ k e w.0 w.2))
+
+pub ok_mapped : {T E D : Type 0} (r : Result T E) (q : Result T D) (R : E → D → Type 0) (x : T) → q ≡ Ok x → MatchResult r (λ y. q ≡ Ok y) (λ e. IsErrAnd q (R e)) → r ≡ Ok x
+ok_mapped (Ok y) q R x is m = let same : y ≡ x = cc in ap Ok same
+ok_mapped (Err e) q R x is m =
+    let w = err_from_is_err_and q m in
+    let e1 = w.1 in
+    let z : ◌≡◌ {A = ℕ} 0 1 = cc in absurd (omega arith)
+
 -- granted as the graph grants it
 pub as_granted : {A : Type 0} {P : A → Type 0} (r : Checked A) (x : A) → Grants P r → r ≡ Ok x → P x
 as_granted {A} {P} (Ok y) x (given h) e = let z : y ≡ x = cc in subst P z h
@@ -80,12 +97,12 @@ pub stood : (o : Option Position) (e : Fault) (at : Position) → (o otherwise e
 stood None e at h = absurd (ok_err at e h)
 stood (Some x) e at h = let z : x ≡ at = cc in ap (λ (y : Position). Some y) z
 
-module _ {S V : Type 0} {stores : StoreGhosts S} {policies : PolicyGhosts V} (picks : V → List Bool → ℕ → V → Type 0) (touches : V → ℕ → V → Type 0) (pages : S → List Page) (frames : V → ℕ) (s : Service S V stores policies) (c : ℕ) (order : InOrder pages frames s) where
+module _ {S V : Type 0} {stores : StoreGhosts S} {policies : PolicyGhosts V} (s : Service S V stores policies) (c : ℕ) where
   -- a cursor's page is there
-  pub cursor_page : (at : Position) → get_or s.cursors c None ≡ Some at → is_page (graph_of pages s).pages at.page ≡ true
+  pub cursor_page : (at : Position) → get_or s.cursors c None ≡ Some at → is_page (graph_of s).pages at.page ≡ true
   cursor_page at e =
-      let o = order.stand c at e in
-      let r = is_there (graph_of pages s).pages at.page o.held o.lawful.reads in
+      let o = on_objects (setting_of s).types (graph_of s) s.stand c at e in
+      let r = is_there (graph_of s).pages at.page o.held o.lawful.reads in
       and_from (ltb 0 at.page) _ (lt-ltb 0 at.page r.0) (le-leb at.page _ r.1)
 
   module _ (f : ℕ) (link : Bool) where
@@ -94,14 +111,13 @@ module _ {S V : Type 0} {stores : StoreGhosts S} {policies : PolicyGhosts V} (pi
         (ltb f (type_at (setting_of s).types bs at.cell).size else fault NoField 2 (on_field at.page at.cell f))
         >> ((asks link (linked (type_at (setting_of s).types bs at.cell) f) else fault WrongKind 2 (on_field at.page at.cell f)) >> Ok (record { page = at.page; cell = at.cell; field = f; bytes = bs }))
 
-    chain : (at : Position) → get_or s.cursors c None ≡ Some at → steps.field (setting_of s) (graph_of pages s) (asks link) c f ≡ (opening (setting_of s) (graph_of pages s) at.page >>= (λ bs. rest bs at))
-    chain at e = bind_ok (get_or s.cursors c None otherwise fault EmptyCursor 2 nowhere) (λ x. opening (setting_of s) (graph_of pages s) x.page >>= (λ bs. rest bs x)) at (ap (λ o. o otherwise fault EmptyCursor 2 nowhere) e)
+    chain : (at : Position) → get_or s.cursors c None ≡ Some at → steps.field (setting_of s) (graph_of s) (asks link) c f ≡ (opening (setting_of s) (graph_of s) at.page >>= (λ bs. rest bs at))
+    chain at e = bind_ok (get_or s.cursors c None otherwise fault EmptyCursor 2 nowhere) (λ x. opening (setting_of s) (graph_of s) x.page >>= (λ bs. rest bs x)) at (ap (λ o. o otherwise fault EmptyCursor 2 nowhere) e)
 
-    pub no_cursor : (e : Fault) → steps.stands_on (setting_of s) (graph_of pages s) c ≡ Err e → Reached picks touches pages frames s s c f link (Err e)
+    pub no_cursor : (e : Fault) → steps.stands_on (setting_of s) (graph_of s) c ≡ Err e → Reached s s c f link (Err e)
     no_cursor e h = record {
-      order = order;
       graph = refl;
-      answer = sym (bind_err (get_or s.cursors c None otherwise fault EmptyCursor 2 nowhere) (λ x. opening (setting_of s) (graph_of pages s) x.page >>= (λ bs. rest bs x)) e h);
+      answer = sym (bind_err (get_or s.cursors c None otherwise fault EmptyCursor 2 nowhere) (λ x. opening (setting_of s) (graph_of s) x.page >>= (λ bs. rest bs x)) e h);
       there = tt;
       moves = rests s.pool;
     }
@@ -110,27 +126,26 @@ module _ {S V : Type 0} {stores : StoreGhosts S} {policies : PolicyGhosts V} (pi
       abbrev May : ℕ → Type 0
       May n = (x : Position) × ((get_or s.cursors c None ≡ Some x) × (n ≡ x.page))
 
-      moved : (r : Checked ℕ) → Came picks touches pages frames s t at.page r → Moves picks touches pages May s.cursors s.pool t.pool
+      moved : (r : Checked ℕ) → Came s t at.page r → Moves May s.cursors s.pool t.pool
       moved r w = opens at.page s.pool t.pool t.pool w.standing r (at, (at_c, refl)) w.agree w.course (rests t.pool)
 
-      pub not_opened : (e : Fault) → Came picks touches pages frames s t at.page (Err e) → Reached picks touches pages frames s t c f link (Err e)
+      pub not_opened : (e : Fault) → Came s t at.page (Err e) → Reached s t c f link (Err e)
       not_opened e w = record {
-        order = w.order;
         graph = w.graph;
-        answer = sym (chain at at_c ∙ bind_err (opening (setting_of s) (graph_of pages s) at.page) (λ bs. rest bs at) e (sym w.answer));
+        answer = sym (chain at at_c ∙ bind_err (opening (setting_of s) (graph_of s) at.page) (λ bs. rest bs at) e (sym w.answer));
         there = tt;
         moves = moved (Err e) w;
       }
 
-      module _ (kept : Kept s t) (i : ℕ) (w : Came picks touches pages frames s t at.page (Ok i)) where
+      module _ (kept : Kept s t) (i : ℕ) (w : Came s t at.page (Ok i)) where
         abbrev bs : List ℕ
         bs = bytes_in t i
 
-        is_open : opening (setting_of s) (graph_of pages s) at.page ≡ Ok bs
+        is_open : opening (setting_of s) (graph_of s) at.page ≡ Ok bs
         is_open = sym w.answer
 
         begins_before : starts_at (setting_of s).types bs at.cell ≡ true
-        begins_before = begins_in (setting_of s).types (graph_of pages s).pages at bs (order.stand c at at_c) (as_granted (opening (setting_of s) (graph_of pages s) at.page) bs (opens-lawful (setting_of s) (graph_of pages s) at.page) is_open)
+        begins_before = begins_in (setting_of s).types (graph_of s).pages at bs (on_objects (setting_of s).types (graph_of s) s.stand c at at_c) (as_granted (opening (setting_of s) (graph_of s) at.page) bs (opens-lawful (setting_of s) (graph_of s) at.page) is_open)
 
         begins_after : starts_at (setting_of t).types bs at.cell ≡ true
         begins_after = ap (λ (k : ClosedCatalogue). starts_at (types k) bs at.cell) kept.catalogue ∙ begins_before
@@ -147,31 +162,30 @@ module _ {S V : Type 0} {stores : StoreGhosts S} {policies : PolicyGhosts V} (pi
         }
 
         -- the type of the object, as the pool tells it
-        module _ (d : Descriptor) (told : Tied pages frames t.pool → (fr : Frame) → HasAt t.pool.frames i fr → starts_at (setting_of t).types (long_bytes (setting_of t).types t.pool.table.page_of fr) at.cell ≡ true → d ≡ type_at (setting_of t).types (long_bytes (setting_of t).types t.pool.table.page_of fr) at.cell) where
+        module _ (d : Descriptor) (told : (fr : Frame) → HasAt t.pool.frames i fr → starts_at (setting_of t).types (long_bytes (setting_of t).types t.pool.table.page_of fr) at.cell ≡ true → d ≡ type_at (setting_of t).types (long_bytes (setting_of t).types t.pool.table.page_of fr) at.cell) where
           kind_after : d ≡ type_at (setting_of t).types bs at.cell
           unfolding object
-          kind_after = told w.order.pool w.there.0 w.there.1.0 object.begins ∙ ap (λ (x : List ℕ). type_at (setting_of t).types x at.cell) (sym long)
+          kind_after = told w.there.0 w.there.1.0 object.begins ∙ ap (λ (x : List ℕ). type_at (setting_of t).types x at.cell) (sym long)
 
           kind_is : d ≡ type_at (setting_of s).types bs at.cell
           kind_is = kind_after ∙ ap (λ (k : ClosedCatalogue). type_at (types k) bs at.cell) kept.catalogue
 
-          goes_on : steps.field (setting_of s) (graph_of pages s) (asks link) c f ≡ ((ltb f d.size else fault NoField 2 (on_field at.page at.cell f)) >> ((asks link (linked d f) else fault WrongKind 2 (on_field at.page at.cell f)) >> Ok (record { page = at.page; cell = at.cell; field = f; bytes = bs })))
+          goes_on : steps.field (setting_of s) (graph_of s) (asks link) c f ≡ ((ltb f d.size else fault NoField 2 (on_field at.page at.cell f)) >> ((asks link (linked d f) else fault WrongKind 2 (on_field at.page at.cell f)) >> Ok (record { page = at.page; cell = at.cell; field = f; bytes = bs })))
           goes_on =
-              chain at at_c ∙ bind_ok (opening (setting_of s) (graph_of pages s) at.page) (λ x. rest x at) bs is_open
+              chain at at_c ∙ bind_ok (opening (setting_of s) (graph_of s) at.page) (λ x. rest x at) bs is_open
               ∙ ap (λ (k : Descriptor). (ltb f k.size else fault NoField 2 (on_field at.page at.cell f)) >> ((asks link (linked k f) else fault WrongKind 2 (on_field at.page at.cell f)) >> Ok (record { page = at.page; cell = at.cell; field = f; bytes = bs }))) (sym kind_is)
 
-          turned : (e : Fault) → steps.field (setting_of s) (graph_of pages s) (asks link) c f ≡ Err e → Reached picks touches pages frames s t c f link (Err e)
-          turned e h = record { order = w.order; graph = w.graph; answer = sym h; there = tt; moves = moved (Ok i) w }
+          turned : (e : Fault) → steps.field (setting_of s) (graph_of s) (asks link) c f ≡ Err e → Reached s t c f link (Err e)
+          turned e h = record { graph = w.graph; answer = sym h; there = tt; moves = moved (Ok i) w }
 
-          pub no_field : (e : Fault) → e ≡ fault NoField 2 (on_field at.page at.cell f) → ltb f d.size ≡ false → Reached picks touches pages frames s t c f link (Err e)
+          pub no_field : (e : Fault) → e ≡ fault NoField 2 (on_field at.page at.cell f) → ltb f d.size ≡ false → Reached s t c f link (Err e)
           no_field e is h = turned e (goes_on ∙ then_err _ _ _ (else_err (ltb f d.size) _ h) ∙ ap (λ (x : Fault). Err x) (sym is))
 
-          pub wrong_kind : (e : Fault) → e ≡ fault WrongKind 2 (on_field at.page at.cell f) → ltb f d.size ≡ true → asks link (linked d f) ≡ false → Reached picks touches pages frames s t c f link (Err e)
+          pub wrong_kind : (e : Fault) → e ≡ fault WrongKind 2 (on_field at.page at.cell f) → ltb f d.size ≡ true → asks link (linked d f) ≡ false → Reached s t c f link (Err e)
           wrong_kind e is h l = turned e (goes_on ∙ then_ok _ _ tt (else_ok (ltb f d.size) _ h) ∙ then_err _ _ _ (else_err (asks link (linked d f)) _ l) ∙ ap (λ (x : Fault). Err x) (sym is))
 
-          pub there_is : f < d.size → asks link (linked d f) ≡ true → Reached picks touches pages frames s t c f link (Ok (record { frame = i; at = at }))
+          pub there_is : f < d.size → asks link (linked d f) ≡ true → Reached s t c f link (Ok (record { frame = i; at = at }))
           there_is h l = record {
-            order = w.order;
             graph = w.graph;
             answer = sym (goes_on ∙ then_ok _ _ tt (else_ok (ltb f d.size) _ (lt-ltb f d.size h)) ∙ then_ok _ _ tt (else_ok (asks link (linked d f)) _ l));
             there = (object, subst (λ (k : Descriptor). f < k.size) kind_after h);

@@ -9,16 +9,14 @@ use Rattle.page.specs.Form.{field_at, type_at}
 use Rattle.page.specs.Links.{is_link}
 use Rattle.page.specs.Types.{types}
 use Rattle.page.specs.declared.catalogue.ClosedCatalogue.{ClosedCatalogue}
-use Rattle.page.specs.declared.link.Link.TheVariants.{Absent, To}
 use Rattle.frame.specs.Links.{address}
 use Rattle.frame.specs.declared.frame.Frame.{Frame}
-use Rattle.store.specs.Pages.{Page, Whole, page_at}
+use Rattle.store.specs.Pages.{Whole, page_at}
 use Rattle.stands.specs.Frames.{HasAt, long_bytes}
-use Rattle.graph.specs.declared.calls.Answer.{Answer}
-use Rattle.graph.specs.declared.calls.Answer.TheVariants.{Granted, Refused}
+use Rattle.graph.specs.Steps.{Answer}
 use Rattle.graph.specs.declared.calls.Call.{Call}
 use Rattle.graph.specs.declared.calls.Call.TheVariants.{Read, Target, Glance}
-use Rattle.graph.specs.declared.calls.Position.{Position}
+use Rattle.page.specs.declared.link.Position.{Position}
 use Rattle.graph.specs.declared.calls.Value.{Value}
 use Rattle.graph.specs.declared.calls.Value.TheVariants.{Number, Names}
 use Rattle.graph.specs.Graphs.{Graph, Setting}
@@ -26,14 +24,14 @@ use Rattle.graph.specs.Openings as openings
 use Rattle.graph.specs.Shown.{Shown, InFrame, absent, address as addressed}
 use Rattle.graph.specs.Steps as steps
 use Rattle.graph.specs.Steps.{starts_at, held, named, granted}
+use Rattle.page.specs.Links.{pointed}
 use Rattle.graph.proofs.Opens.{spot}
 use Rattle.pool.specs.Looking.{owner_of, field_shown}
-use Rattle.pool.specs.Meaning.{Tied}
 use Rattle.pool.specs.Opening.{held_bytes}
 use Rattle.pool.proofs.Looks.{field_link, field_served}
 use Rattle.service.specs.Calls.{Moves, Did}
 use Rattle.service.specs.Inner.{asks, bytes_in, spot_of, Reached}
-use Rattle.service.specs.Serving.{setting_of, owners, graph_of, InOrder, Kept}
+use Rattle.service.specs.Serving.{setting_of, owners, graph_of, Kept}
 use Rattle.service.specs.declared.service.Service.{Service}
 use Rattle.service.specs.declared.service.reach.Spot.{Spot}
 use Rattle.service.proofs.Doing.{moves_to, refuses, grants}
@@ -84,26 +82,26 @@ module _ (tab : AddressTable) (y : ℕ) (served : (y ≡ 0 → ⊥) → 0 < get_
       ∙ ap (λ x. cond (eqb x 0) None (Some x)) at
       ∙ ap (λ b. cond b None (Some (y / 64))) (ne_eqb (y / 64) 0 some)
 
-  by_test : (b : Bool) → eqb y 0 ≡ b → InFrame (owner_of tab.page_of tab.slots) (Names (cond b Absent (To (y / 64) (y % 64)))) (cond b 0 (1048512 + 64 * slot + y % 64))
+  by_test : (b : Bool) → eqb y 0 ≡ b → InFrame (owner_of tab.page_of tab.slots) (Names (cond b None (Some (pointed y)))) (cond b 0 (1048512 + 64 * slot + y % 64))
   by_test true e = absent
   by_test false e =
       let h = served (eqb-false y 0 e) in
-      addressed (slot - 1) (y / 64) (y % 64) (1048512 + 64 * slot + y % 64) (owner_is h) (omega (arith, h))
+      addressed (slot - 1) (1048512 + 64 * slot + y % 64) (pointed y) (owner_is h) (omega (arith, h))
 
   pub in_frame : InFrame (owner_of tab.page_of tab.slots) (Names (named y)) (address tab.slot_of y)
   in_frame = by_test (eqb y 0) refl
 
-module _ {S V : Type 0} {stores : StoreGhosts S} {policies : PolicyGhosts V} (picks : V → List Bool → ℕ → V → Type 0) (touches : V → ℕ → V → Type 0) (pages : S → List Page) (frames : V → ℕ) (few : (x : S) → length (pages x) ≤ 1024) (whole : (x : S) (n : ℕ) → Whole (page_at (pages x) n).content)
-    (s t : Service S V stores policies) (c f : ℕ) (link : Bool) (order : InOrder pages frames s) (kept : Kept s t) (known : c ≤ 15)
+module _ {S V : Type 0} {stores : StoreGhosts S} {policies : PolicyGhosts V} (few : (x : S) → length (stores.pages x) ≤ 1024) (whole : (x : S) (n : ℕ) → Whole (page_at (stores.pages x) n).content)
+    (s t : Service S V stores policies) (c f : ℕ) (link : Bool) (kept : Kept s t) (known : c ≤ 15)
   where
     -- the call opens the page of the cursor's object
-    pub path : (call : Call) → ((x : Position) → openings.On (graph_of pages s) c x → openings.Opens (setting_of s) (graph_of pages s) call x.page) → (r : Checked Spot) → Reached picks touches pages frames s t c f link r → Moves picks touches pages (openings.Opens (setting_of s) (graph_of pages s) call) s.cursors s.pool t.pool
+    pub path : (call : Call) → ((x : Position) → openings.On (graph_of s) c x → openings.Opens (setting_of s) (graph_of s) call x.page) → (r : Checked Spot) → Reached s t c f link r → Moves (openings.Opens (setting_of s) (graph_of s) call) s.cursors s.pool t.pool
     path call op r w =
-        moves_to (openings.Opens (setting_of s) (graph_of pages s) call)
-        (λ n m. subst (λ k. openings.Opens (setting_of s) (graph_of pages s) call k) (sym m.1.1) (op m.0 (record { known = known; stands = m.1.0 })))
+        moves_to (openings.Opens (setting_of s) (graph_of s) call)
+        (λ n m. subst (λ k. openings.Opens (setting_of s) (graph_of s) call k) (sym m.1.1) (op m.0 (record { known = known; stands = m.1.0 })))
         w.moves
 
-    module _ (o : Spot) (w : Reached picks touches pages frames s t c f link (Ok o)) where
+    module _ (o : Spot) (w : Reached s t c f link (Ok o)) where
       abbrev fr : Frame
       fr = w.there.0.frame
 
@@ -117,37 +115,37 @@ module _ {S V : Type 0} {stores : StoreGhosts S} {policies : PolicyGhosts V} (pi
       small = subst (λ (x : List ℕ). f < (type_at (setting_of t).types x o.at.cell).size) long w.there.1
 
       -- what the pool tells of the field
-      pub told_is : (T : List ℕ → ℕ) (x : ℕ) → (Tied pages frames t.pool → (k : Frame) → HasAt t.pool.frames o.frame k → starts_at (setting_of t).types (long_bytes (setting_of t).types t.pool.table.page_of k) o.at.cell ≡ true → f < (type_at (setting_of t).types (long_bytes (setting_of t).types t.pool.table.page_of k) o.at.cell).size → x ≡ T (long_bytes (setting_of t).types t.pool.table.page_of k)) → x ≡ T bs
-      told_is T x told = told w.order.pool fr w.there.0.has w.there.0.begins small ∙ ap T (sym long)
+      pub told_is : (T : List ℕ → ℕ) (x : ℕ) → ((k : Frame) → HasAt t.pool.frames o.frame k → starts_at (setting_of t).types (long_bytes (setting_of t).types t.pool.table.page_of k) o.at.cell ≡ true → f < (type_at (setting_of t).types (long_bytes (setting_of t).types t.pool.table.page_of k) o.at.cell).size → x ≡ T (long_bytes (setting_of t).types t.pool.table.page_of k)) → x ≡ T bs
+      told_is T x told = told fr w.there.0.has w.there.0.begins small ∙ ap T (sym long)
 
-      pub field_is : steps.field (setting_of s) (graph_of pages s) (asks link) c f ≡ Ok (spot_of t f o)
+      pub field_is : steps.field (setting_of s) (graph_of s) (asks link) c f ≡ Ok (spot_of t f o)
       field_is = sym w.answer
 
       pub kind : asks link (linked (type_at (setting_of s).types bs o.at.cell) f) ≡ true
-      kind = (as_granted (steps.field (setting_of s) (graph_of pages s) (asks link) c f) (spot_of t f o) (spot (setting_of s) (graph_of pages s) (asks link) c f) field_is).kind
+      kind = (as_granted (steps.field (setting_of s) (graph_of s) (asks link) c f) (spot_of t f o) (spot (setting_of s) (graph_of s) (asks link) c f) field_is).kind
 
       kind_after : asks link (linked (type_at (setting_of t).types bs o.at.cell) f) ≡ true
       kind_after = ap (λ (k : ClosedCatalogue). asks link (linked (type_at (types k) bs o.at.cell) f)) kept.catalogue ∙ kind
 
     -- a link
-    module _ (o : Spot) (w : Reached picks touches pages frames s t c f link (Ok o)) (is : link ≡ true) where
+    module _ (o : Spot) (w : Reached s t c f link (Ok o)) (is : link ≡ true) where
       linked_after : linked (type_at (setting_of t).types (long_bytes (setting_of t).types t.pool.table.page_of w.there.0.frame) o.at.cell) f ≡ true
       linked_after =
           ap (λ (x : List ℕ). linked (type_at (setting_of t).types x o.at.cell) f) (sym (long o w))
           ∙ subst (λ b. asks b (linked (type_at (setting_of t).types (bytes_in t o.frame) o.at.cell) f) ≡ true) is (kind_after o w)
 
-      pub link_is : is_link (length (pages t.pool.store)) (held (spot_of t f o)) ≡ true
+      pub link_is : is_link (length (stores.pages t.pool.store)) (held (spot_of t f o)) ≡ true
       link_is =
           let p = t.pool in
-          ap (λ (x : List ℕ). is_link (length (pages p.store)) (field_at x o.at.cell f)) (long o w)
-          ∙ field_link (types p.catalogue) p.table.slot_of p.table.page_of (pages p.store) p.frames p.pages (frames p.policy) p.count w.order.pool p.table.within.1.1.0 o.frame w.there.0.frame w.there.0.has o.at.cell f w.there.0.begins (small o w) linked_after
+          ap (λ (x : List ℕ). is_link (length (stores.pages p.store)) (field_at x o.at.cell f)) (long o w)
+          ∙ field_link (types p.catalogue) p.table.slot_of p.table.page_of (stores.pages p.store) p.frames p.pages (policies.frames p.policy) p.count t.pool.tied p.table.within.1.1.0 o.frame w.there.0.frame w.there.0.has o.at.cell f w.there.0.begins (small o w) linked_after
 
       pub link_served : (held (spot_of t f o) ≡ 0 → ⊥) → 0 < get_or t.pool.table.slot_of (held (spot_of t f o) / 64) 0
       link_served some =
           let p = t.pool in
           let e = ap (λ (x : List ℕ). field_at x o.at.cell f) (long o w) in
           subst (λ y. 0 < get_or p.table.slot_of (y / 64) 0) (sym e)
-          (field_served (types p.catalogue) p.table.slot_of p.table.page_of (pages p.store) p.frames p.pages (frames p.policy) p.count w.order.pool p.table.within.1.1.0 o.frame w.there.0.frame w.there.0.has o.at.cell f w.there.0.begins (small o w) linked_after (λ z. some (e ∙ z)))
+          (field_served (types p.catalogue) p.table.slot_of p.table.page_of (stores.pages p.store) p.frames p.pages (policies.frames p.policy) p.count t.pool.tied p.table.within.1.1.0 o.frame w.there.0.frame w.there.0.has o.at.cell f w.there.0.begins (small o w) linked_after (λ z. some (e ∙ z)))
 
       shown_link : field_shown (setting_of t).types t.pool.table.slot_of (bytes_in t o.frame) o.at.cell f ≡ address t.pool.table.slot_of (held (spot_of t f o))
       shown_link = ap (λ b. cond b (address t.pool.table.slot_of (held (spot_of t f o))) (held (spot_of t f o))) (ap (λ (x : List ℕ). linked (type_at (setting_of t).types x o.at.cell) f) (long o w) ∙ linked_after)
@@ -156,9 +154,9 @@ module _ {S V : Type 0} {stores : StoreGhosts S} {policies : PolicyGhosts V} (pi
       glanced x e = subst (λ y. InFrame (owners t) (Names (named (held (spot_of t f o)))) y) (sym (e ∙ shown_link)) (in_frame t.pool.table (held (spot_of t f o)) link_served)
 
     -- refused on the way to the field
-    pub refused_field : (call : Call) → ((x : Position) → openings.On (graph_of pages s) c x → openings.Opens (setting_of s) (graph_of pages s) call x.page) → (e : Fault) → Reached picks touches pages frames s t c f link (Err e) → (steps.field (setting_of s) (graph_of pages s) (asks link) c f ≡ Err e → granted (setting_of s) (graph_of pages s) call ≡ Err e) → Did picks touches pages frames s t call (Refused e)
-    refused_field call op e w h = refuses picks touches pages frames few whole s t call order kept e w.order w.graph (path call op (Err e) w) (h (sym w.answer))
+    pub refused_field : (call : Call) → ((x : Position) → openings.On (graph_of s) c x → openings.Opens (setting_of s) (graph_of s) call x.page) → (e : Fault) → Reached s t c f link (Err e) → (steps.field (setting_of s) (graph_of s) (asks link) c f ≡ Err e → granted (setting_of s) (graph_of s) call ≡ Err e) → Did s t call (Err e)
+    refused_field call op e w h = refuses few whole s call t kept e w.graph (path call op (Err e) w) (h (sym w.answer))
 
     -- the graph stays
-    pub told_field_of : (call : Call) → ((x : Position) → openings.On (graph_of pages s) c x → openings.Opens (setting_of s) (graph_of pages s) call x.page) → (r : Checked Spot) → Reached picks touches pages frames s t c f link r → (v : Value) (a : Answer) → granted (setting_of s) (graph_of pages s) call ≡ Ok (v, graph_of pages s) → Shown (owners t) call (Granted v) a → Did picks touches pages frames s t call a
-    told_field_of call op r w v a h shows = grants picks touches pages frames few whole s t call order kept v (graph_of pages s) a h w.graph w.order.pool w.order.covered (path call op r w) shows
+    pub told_field_of : (call : Call) → ((x : Position) → openings.On (graph_of s) c x → openings.Opens (setting_of s) (graph_of s) call x.page) → (r : Checked Spot) → Reached s t c f link r → (v : Value) (a : Answer) → granted (setting_of s) (graph_of s) call ≡ Ok (v, graph_of s) → Shown (owners t) call (Ok v) a → Did s t call a
+    told_field_of call op r w v a h shows = grants few whole s call t kept v (graph_of s) a h w.graph (path call op r w) shows

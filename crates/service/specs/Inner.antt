@@ -3,16 +3,15 @@ use Rattle.std.specs.Prelude.{◌≡◌, ℕ, ◌<◌, ◌≤◌, Bool, true, fa
 use Rattle.fault.specs.Refusals.{Checked, ◌>>=◌}
 use Rattle.page.specs.Form.{type_at}
 use Rattle.frame.specs.declared.frame.Frame.{Frame}
-use Rattle.store.specs.Pages.{Page}
 use Rattle.stands.specs.Frames.{HasAt, long_bytes}
-use Rattle.graph.specs.declared.calls.Position.{Position}
+use Rattle.page.specs.declared.link.Position.{Position}
 use Rattle.graph.specs.Graphs.{on_cursor, opening}
 use Rattle.graph.specs.Steps as steps
 use Rattle.graph.specs.Steps.{starts_at}
 use Rattle.pool.specs.Courses.{Opens}
 use Rattle.pool.specs.Opening.{held_bytes, found}
 use Rattle.service.specs.Calls.{Moves}
-use Rattle.service.specs.Serving.{setting_of, graph_of, InOrder}
+use Rattle.service.specs.Serving.{setting_of, graph_of}
 use Rattle.service.specs.declared.service.Service.{Service}
 use Rattle.service.specs.declared.service.reach.Spot.{Spot}
 use Rattle.store.specs.declared.Store.{Ghosts as StoreGhosts}
@@ -46,29 +45,26 @@ abbrev pub spotted : {S V : Type 0} → {stores : StoreGhosts S} → {policies :
 spotted s f (Ok o) = Ok (spot_of s f o)
 spotted s f (Err e) = Err e
 
-module _ {S V : Type 0} {stores : StoreGhosts S} {policies : PolicyGhosts V} (picks : V → List Bool → ℕ → V → Type 0) (touches : V → ℕ → V → Type 0) (pages : S → List Page) (frames : V → ℕ) where
+module _ {S V : Type 0} {stores : StoreGhosts S} {policies : PolicyGhosts V} where
   -- page n was opened
   pub record Came (s t : Service S V stores policies) (n : ℕ) (r : Checked ℕ) : Type 0 where
-    pub order : InOrder pages frames t
-    pub graph : graph_of pages t ≡ graph_of pages s
-    pub answer : found (setting_of t).types t.pool.table.page_of t.pool.frames r ≡ opening (setting_of s) (graph_of pages s) n
+    pub graph : graph_of t ≡ graph_of s
+    pub answer : found (setting_of t).types t.pool.table.page_of t.pool.frames r ≡ opening (setting_of s) (graph_of s) n
     pub there : IfOk r (λ i. (f : Frame) × (HasAt t.pool.frames i f × (f.page ≡ n)))
     pub standing : ℕ → Bool
     pub agree : (m : ℕ) → 0 < m → m ≤ 1024 → standing m ≡ on_cursor s.cursors m
-    pub course : Opens picks touches pages standing n s.pool t.pool r
+    pub course : Opens standing n s.pool t.pool r
 
   -- field f of the object on which cursor c stands was come to
   pub record Reached (s t : Service S V stores policies) (c f : ℕ) (link : Bool) (r : Checked Spot) : Type 0 where
-    pub order : InOrder pages frames t
-    pub graph : graph_of pages t ≡ graph_of pages s
-    pub answer : spotted t f r ≡ steps.field (setting_of s) (graph_of pages s) (asks link) c f
+    pub graph : graph_of t ≡ graph_of s
+    pub answer : spotted t f r ≡ steps.field (setting_of s) (graph_of s) (asks link) c f
     pub there : IfOk r (λ o. Object t o.frame o.at.page o.at.cell × (f < (type_at (setting_of t).types (bytes_in t o.frame) o.at.cell).size))
-    pub moves : Moves picks touches pages (λ n. (at : Position) × ((slice_index_or s.cursors c None ≡ Some at) × (n ≡ at.page))) s.cursors s.pool t.pool
+    pub moves : Moves (λ n. (at : Position) × ((slice_index_or s.cursors c None ≡ Some at) × (n ≡ at.page))) s.cursors s.pool t.pool
 
   -- the object there was come to
   pub record Entered (s t : Service S V stores policies) (at : Position) (r : Checked (Unit {0})) : Type 0 where
-    pub order : InOrder pages frames t
-    pub graph : graph_of pages t ≡ graph_of pages s
-    pub answer : r ≡ (opening (setting_of s) (graph_of pages s) at.page >>= (λ bs. steps.object (setting_of s) (graph_of pages s) bs at))
+    pub graph : graph_of t ≡ graph_of s
+    pub answer : r ≡ (opening (setting_of s) (graph_of s) at.page >>= (λ bs. steps.object (setting_of s) (graph_of s) bs at))
     pub there : IfOk r (λ _. 0 < slice_index t.pool.table.slot_of at.page)
-    pub moves : Moves picks touches pages (λ n. n ≡ at.page) s.cursors s.pool t.pool
+    pub moves : Moves (λ n. n ≡ at.page) s.cursors s.pool t.pool

@@ -1,3 +1,4 @@
+pub mod Graphing
 pub mod Plans
 pub mod Serving
 pub mod Calls

@@ -4,14 +4,12 @@ use Rattle.page.specs.Types.{types}
 use Rattle.page.specs.Walks.{cells_of, links_to}
 use Rattle.frame.specs.Links.{swizzled}
 use Rattle.frame.specs.declared.frame.Frame.{Frame}
-use Rattle.store.specs.Pages.{Page, bytes, page_at}
+use Rattle.store.specs.Pages.{bytes, page_at}
 use Rattle.stands.specs.Frames.{HasAt}
-use Rattle.graph.specs.declared.calls.Position.{Position}
-use Rattle.graph.specs.Graphs.{Graph, Setting, on_cursor}
-use Rattle.graph.specs.Standing.{OnObjects}
+use Rattle.page.specs.declared.link.Position.{Position}
+use Rattle.graph.specs.Graphs.{Graph, Setting}
 use Rattle.pool.specs.Looking.{owner_of}
-use Rattle.pool.specs.Meaning.{Tied, stood_for}
-use Rattle.pool.specs.Needs.{Covers}
+use Rattle.service.specs.Graphing.{graph_at}
 use Rattle.service.specs.declared.service.Service.{Service}
 use Rattle.store.specs.declared.Store.{Ghosts as StoreGhosts}
 use Rattle.policy.specs.declared.Policy.{Ghosts as PolicyGhosts}
@@ -30,16 +28,10 @@ pub record Kept {S V : Type 0} {stores : StoreGhosts S} {policies : PolicyGhosts
   pub addresses : t.pool.table.slots ≡ s.pool.table.slots
   pub frames : t.pool.count ≡ s.pool.count
 
-module _ {S V : Type 0} {stores : StoreGhosts S} {policies : PolicyGhosts V} (pages : S → List Page) where
-  -- the graph that it stands for: the store's pages with those in frames, in long pointers, over them, and its cursors
+module _ {S V : Type 0} {stores : StoreGhosts S} {policies : PolicyGhosts V} where
+  -- the graph that it stands for
   abbrev pub graph_of : Service S V stores policies → Graph
-  graph_of s = record { pages = stood_for pages s.pool; cursors = s.cursors }
-
-  -- it is tied to its store and policy, its cursors stand on objects, and their pages have slots
-  pub record InOrder (frames : V → ℕ) (s : Service S V stores policies) : Type 0 where
-    pub pool : Tied pages frames s.pool
-    pub stand : OnObjects (setting_of s).types (graph_of s)
-    pub covered : Covers s.pool.table.slot_of (on_cursor s.cursors)
+  graph_of s = graph_at s.pool s.cursors
 
   -- a frame holds a page of the graph, with addresses for its present links; the page and those that it links to have slots
   pub record Framed (s : Service S V stores policies) (f : Frame) : Type 0 where

@@ -49,7 +49,12 @@ impl<S: Store, V: Policy> Pool<S, V> {
     }
 
     // Brings page n, given by its bytes, into a frame beside the pages that cursors stand on.
-    fn enter(&mut self, n: u64, bytes: &[u8; PAGE_BYTES], standing: &PageSet) -> Result<usize, Fault>
+    fn enter(
+        &mut self,
+        n: u64,
+        bytes: &[u8; PAGE_BYTES],
+        standing: &PageSet,
+    ) -> Result<usize, Fault>
         requires { Incoming (types self.old.catalogue) (S.Store.pages self.old.store) self.old.frames n bytes.now }
         ensures opened { OpenedTo (holds standing.now.words) n self.old self.new result }
         ensures course { Opens (holds standing.now.words) n self.old self.new result }

@@ -24,7 +24,7 @@ impl<S: Store, V: Policy> Pool<S, V> {
         ensures empty { result.frames ≡ replicate 16 None }
         ensures count { result.count ≡ max (min frames 16) 1 }
     {
-        let count = frames.min(MOST_FRAMES).max(1);
+        let count = frames.clamp(1, MOST_FRAMES);
         policy.open(count);
         let pages = store.count();
         Pool {

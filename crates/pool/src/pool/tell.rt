@@ -29,7 +29,7 @@ impl<S: Store, V: Policy> Pool<S, V> {
     pub fn has_page(&self, n: u64) -> bool
         ensures { result ≡ (nat_lt 0 n && nat_le n self.now.pages) }
     {
-        n > 0 && n <= self.pages
+        (1..=self.pages).contains(&n)
     }
 
     // The type of that number, if it is declared.

@@ -11,7 +11,7 @@ impl Plan {
     pub fn new(addresses: u64, frames: u64) -> Result<Plan, Fault>
         ensures { planned result ≡ plan_answer addresses frames }
     {
-        if addresses < 1 || addresses > 256 || frames < 1 || frames > 16 {
+        if !(1..=256).contains(&addresses) || !(1..=16).contains(&frames) {
             return Err(Fault::new(Cause::BadPlan, LAYER, Place::nowhere()));
         }
         Ok(Plan {

@@ -9,7 +9,7 @@ ghost use Rattle.store.specs.Pages.{is_page};
 ghost use Rattle.graph.specs.Graphs.{on_cursor};
 ghost use Rattle.graph.specs.Steps.{cursor as cursor_check, stands_on};
 ghost use Rattle.service.specs.Inner.{on, Came, Reached};
-ghost use Rattle.service.specs.Serving.{setting_of, Kept, graph_of, InOrder};
+ghost use Rattle.service.specs.Serving.{setting_of, Kept, graph_of};
 
 use crate::service::Service;
 use fault::{Cause, Fault, Place};
@@ -19,7 +19,7 @@ use policy::Policy;
 use store::{MOST_PAGES, Store};
 
 // The layer of the calls.
-const LAYER: u32 = 2;
+pub(super) const LAYER: u32 = 2;
 
 const LAST_CURSOR: u64 = 15;
 
@@ -59,8 +59,8 @@ impl<S: Store, V: Policy> Service<S, V> {
         ensures { (m : ℕ) → holds result.words m ≡ (on_cursor self.now.cursors m && is_number m) }
     {
         let mut pages = PageSet::new();
-        for k in 0..16usize {
-            add_page(&mut pages, self.cursors[k]);
+        for held in &self.cursors {
+            add_page(&mut pages, *held);
         }
         pages
     }
@@ -68,25 +68,21 @@ impl<S: Store, V: Policy> Service<S, V> {
     fn held(&self, cursor: u64) -> Option<Position>
         ensures { result ≡ slice_index_or self.now.cursors cursor None }
     {
-        if cursor > LAST_CURSOR {
-            return None;
-        }
-        self.cursors[cursor as usize]
+        self.cursors.get(cursor as usize).copied().flatten()
     }
 
     // Where a cursor stands.
     pub(super) fn position(&self, cursor: u64) -> Result<Position, Fault>
-        ensures { result ≡ stands_on (setting_of self.now) (graph_of S.Store.pages self.now) cursor }
+        ensures { result ≡ stands_on (setting_of self.now) (graph_of self.now) cursor }
     {
-        match self.held(cursor) {
-            Some(at) => Ok(at),
-            None => Err(Fault::new(Cause::EmptyCursor, LAYER, Place::nowhere())),
-        }
+        self.held(cursor)
+            .ok_or(Fault::new(Cause::EmptyCursor, LAYER, Place::nowhere()))
     }
 
     // Sees that page n is in a frame, and answers which.
     pub(super) fn open(&mut self, n: u64) -> Result<usize, Fault>
-        ensures came { InOrder S.Store.pages V.Policy.frames self.old → is_page (graph_of S.Store.pages self.old).pages n ≡ true → Came V.Policy.picks V.Policy.touches S.Store.pages V.Policy.frames self.old self.new n result }
+        requires { is_page (graph_of self.old).pages n ≡ true }
+        ensures came { Came self.old self.new n result }
         ensures cursors { self.new.cursors ≡ self.old.cursors }
         ensures kept { Kept self.old self.new }
     {
@@ -96,7 +92,7 @@ impl<S: Store, V: Policy> Service<S, V> {
 
     // The field of the object on which the cursor stands, if it is a link or a number as asked for.
     pub(super) fn spot(&mut self, cursor: u64, field: u64, link: bool) -> Result<Spot, Fault>
-        ensures reached { InOrder S.Store.pages V.Policy.frames self.old → Reached V.Policy.picks V.Policy.touches S.Store.pages V.Policy.frames self.old self.new cursor field link result }
+        ensures reached { Reached self.old self.new cursor field link result }
         ensures cursors { self.new.cursors ≡ self.old.cursors }
         ensures kept { Kept self.old self.new }
     {

@@ -2,12 +2,12 @@
 ghost use Rattle.std.specs.Prelude.{◌≡◌};
 ghost use Rattle.graph.specs.Steps.{named};
 ghost use Rattle.service.specs.Calls.{number, names, link_of, Did};
-ghost use Rattle.service.specs.Serving.{owners, InOrder};
+ghost use Rattle.service.specs.Serving.{owners};
 
 use crate::service::Service;
 use crate::service::reach::check_cursor;
 use fault::Fault;
-use graph::Call;
+use graph::{Call, Position};
 use policy::Policy;
 use store::Store;
 
@@ -18,13 +18,14 @@ fn pair(pointer: u64) -> Option<(u64, u64)>
     if pointer == 0 {
         return None;
     }
-    Some((pointer / 64, pointer % 64))
+    let at = Position::from(pointer);
+    Some((at.page, at.cell))
 }
 
 impl<S: Store, V: Policy> Service<S, V> {
     // The number in a field.
     pub fn read(&mut self, cursor: u64, field: u64) -> Result<u64, Fault>
-        ensures { InOrder S.Store.pages V.Policy.frames self.old → Did V.Policy.picks V.Policy.touches S.Store.pages V.Policy.frames self.old self.new (Call.Read cursor field) (number result) }
+        ensures { Did self.old self.new (Call.Read cursor field) (number result) }
     {
         check_cursor(cursor)?;
         let spot = self.spot(cursor, field, false)?;
@@ -33,7 +34,7 @@ impl<S: Store, V: Policy> Service<S, V> {
 
     // The page and cell that a link names, or none where it is absent.
     pub fn target(&mut self, cursor: u64, field: u64) -> Result<Option<(u64, u64)>, Fault>
-        ensures { InOrder S.Store.pages V.Policy.frames self.old → Did V.Policy.picks V.Policy.touches S.Store.pages V.Policy.frames self.old self.new (Call.Target cursor field) (names result) }
+        ensures { Did self.old self.new (Call.Target cursor field) (names result) }
     {
         check_cursor(cursor)?;
         let spot = self.spot(cursor, field, true)?;
@@ -42,7 +43,7 @@ impl<S: Store, V: Policy> Service<S, V> {
 
     // The cell of a link as it stands in the frame: 0, or an address.
     pub fn glance(&mut self, cursor: u64, field: u64) -> Result<u64, Fault>
-        ensures { InOrder S.Store.pages V.Policy.frames self.old → Did V.Policy.picks V.Policy.touches S.Store.pages V.Policy.frames self.old self.new (Call.Glance cursor field) (number result) }
+        ensures { Did self.old self.new (Call.Glance cursor field) (number result) }
     {
         check_cursor(cursor)?;
         let spot = self.spot(cursor, field, true)?;

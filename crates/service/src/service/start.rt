@@ -2,7 +2,7 @@
 ghost use Rattle.std.specs.Prelude.{◌≡◌, replicate, None};
 ghost use Rattle.page.specs.Types.{types};
 ghost use Rattle.graph.specs.Graphs.{opened};
-ghost use Rattle.service.specs.Serving.{graph_of, InOrder, Holding};
+ghost use Rattle.service.specs.Serving.{graph_of, Holding};
 
 use crate::plan::Plan;
 use crate::service::Service;
@@ -14,9 +14,8 @@ use store::Store;
 impl<S: Store, V: Policy> Service<S, V> {
     // Opens on a store. It allocates nothing and can't be refused.
     pub fn new(plan: Plan, catalogue: ClosedCatalogue, store: S, policy: V) -> Self
-        ensures order { InOrder S.Store.pages V.Policy.frames result }
-        ensures graph { graph_of S.Store.pages result ≡ opened (S.Store.pages store) }
-        ensures holding { Holding S.Store.pages result }
+        ensures graph { graph_of result ≡ opened (S.Store.pages store) }
+        ensures holding { Holding result }
         ensures catalogue { result.pool.catalogue ≡ catalogue }
         ensures addresses { result.pool.table.slots ≡ plan.addresses }
         ensures frames { result.pool.count ≡ plan.frames }

@@ -4,17 +4,14 @@ ghost use Rattle.store.specs.Pages.{is_page};
 ghost use Rattle.graph.specs.Steps.{page as page_check, first};
 ghost use Rattle.service.specs.Calls.{done, place, Did};
 ghost use Rattle.service.specs.Inner.{Entered};
-ghost use Rattle.service.specs.Serving.{setting_of, Kept, graph_of, InOrder};
+ghost use Rattle.service.specs.Serving.{setting_of, Kept, graph_of};
 
 use crate::service::Service;
-use crate::service::reach::check_cursor;
+use crate::service::reach::{LAYER, check_cursor};
 use fault::{Cause, Fault, Place};
 use graph::{Call, Position};
 use policy::Policy;
 use store::Store;
-
-// The layer of the calls.
-const LAYER: u32 = 2;
 
 // Cell 0 stands for cell 1.
 fn first_cell(cell: u64) -> u64
@@ -25,7 +22,7 @@ fn first_cell(cell: u64) -> u64
 
 impl<S: Store, V: Policy> Service<S, V> {
     pub(super) fn check_page(&self, page: u64) -> Result<(), Fault>
-        ensures { InOrder S.Store.pages V.Policy.frames self.now → result ≡ page_check (setting_of self.now) (graph_of S.Store.pages self.now) page }
+        ensures { result ≡ page_check (setting_of self.now) (graph_of self.now) page }
     {
         if !self.pool.has_page(page) {
             return Err(Fault::new(Cause::NoPage, LAYER, Place::on_page(page)));
@@ -35,7 +32,8 @@ impl<S: Store, V: Policy> Service<S, V> {
 
     // Opens the page of an object and sees that one starts there.
     fn enter(&mut self, at: Position) -> Result<(), Fault>
-        ensures entered { InOrder S.Store.pages V.Policy.frames self.old → is_page (graph_of S.Store.pages self.old).pages at.page ≡ true → Entered V.Policy.picks V.Policy.touches S.Store.pages V.Policy.frames self.old self.new at result }
+        requires { is_page (graph_of self.old).pages at.page ≡ true }
+        ensures entered { Entered self.old self.new at result }
         ensures cursors { self.new.cursors ≡ self.old.cursors }
         ensures kept { Kept self.old self.new }
     {
@@ -49,7 +47,7 @@ impl<S: Store, V: Policy> Service<S, V> {
 
     // The cursor stands on an object of a page.
     pub fn stand(&mut self, cursor: u64, page: u64, cell: u64) -> Result<(), Fault>
-        ensures { InOrder S.Store.pages V.Policy.frames self.old → Did V.Policy.picks V.Policy.touches S.Store.pages V.Policy.frames self.old self.new (Call.Stand cursor page cell) (done result) }
+        ensures { Did self.old self.new (Call.Stand cursor page cell) (done result) }
     {
         check_cursor(cursor)?;
         self.check_page(page)?;
@@ -64,7 +62,7 @@ impl<S: Store, V: Policy> Service<S, V> {
 
     // The second cursor stands on what a link of the first one's object names.
     pub fn follow(&mut self, cursor: u64, field: u64, second: u64) -> Result<(), Fault>
-        ensures { InOrder S.Store.pages V.Policy.frames self.old → Did V.Policy.picks V.Policy.touches S.Store.pages V.Policy.frames self.old self.new (Call.Follow cursor field second) (done result) }
+        ensures { Did self.old self.new (Call.Follow cursor field second) (done result) }
     {
         check_cursor(cursor)?;
         check_cursor(second)?;
@@ -74,20 +72,15 @@ impl<S: Store, V: Policy> Service<S, V> {
         if pointer == 0 {
             return Err(Fault::new(Cause::AbsentLink, LAYER, link));
         }
-        let at = Position {
-            page: pointer / 64,
-            cell: pointer % 64,
-        };
-        if let Err(fault) = self.enter(at) {
-            return Err(fault.via(link));
-        }
+        let at = Position::from(pointer);
+        self.enter(at).map_err(|fault| fault.via(link))?;
         self.cursors[second as usize] = Some(at);
         Ok(())
     }
 
     // The cursor becomes empty.
     pub fn leave(&mut self, cursor: u64) -> Result<(), Fault>
-        ensures { InOrder S.Store.pages V.Policy.frames self.old → Did V.Policy.picks V.Policy.touches S.Store.pages V.Policy.frames self.old self.new (Call.Leave cursor) (done result) }
+        ensures { Did self.old self.new (Call.Leave cursor) (done result) }
     {
         check_cursor(cursor)?;
         self.cursors[cursor as usize] = None;
@@ -96,7 +89,7 @@ impl<S: Store, V: Policy> Service<S, V> {
 
     // The page and cell on which the cursor stands. Opens nothing.
     pub fn where_is(&self, cursor: u64) -> Result<(u64, u64), Fault>
-        ensures { InOrder S.Store.pages V.Policy.frames self.now → Did V.Policy.picks V.Policy.touches S.Store.pages V.Policy.frames self.now self.now (Call.Where cursor) (place result) }
+        ensures { Did self.now self.now (Call.Where cursor) (place result) }
     {
         check_cursor(cursor)?;
         let at = self.position(cursor)?;

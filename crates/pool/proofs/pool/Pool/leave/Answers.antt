@@ -1,5 +1,4 @@
-use Rattle.std.proofs.Common.{◌≤◌, get_or, is_some, None, Option, sym, ap, ◌∙◌, arith}
-use Rattle.std.proofs.lemmas.List.{get_or-map}
+use Rattle.std.proofs.Common.{is_some, Option, sym, ap, ◌∙◌}
 use Rattle.page.specs.Types.{types}
 use Rattle.frame.specs.declared.frame.Frame.{Frame}
 use Rattle.pool.proofs.Frames.{stuck, marks_at, covers_less, empty_set}

@@ -1,4 +1,4 @@
-use Rattle.std.proofs.Common.{◌<◌, ℕ, false, get_or, is_some, None, sym, ap, ◌∙◌, map, rules, arith}
+use Rattle.std.proofs.Common.{◌<◌, false, get_or, is_some, None, sym, ◌∙◌, map, rules, arith}
 use Rattle.std.proofs.lemmas.List.{ext_get_or, length-map, get_or-map}
 use Rattle.pool.proofs.Made.{made}
 use Rattle.pool.proofs.pool.Pool.occupied.Goals as goal

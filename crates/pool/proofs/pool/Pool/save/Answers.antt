@@ -12,8 +12,7 @@ loop-k-preserved g c =
     let k = c.loop-k.k in
     let v = c.loop-k.invariant in
     let x = c.save_frame.ensures in
-    let one = saved_one (types s.catalogue) s.table.slot_of s.table.page_of s.pages (g.V.Policy.frames s.policy) s.count (g.S.Store.pages s.store) s.frames k s.tied (g.S.Store.pages u.store) u.frames _ refl x.frames x.noted in
-    (
+    let one = saved_one (types s.catalogue) s.table.slot_of s.table.page_of s.pages (g.V.Policy.frames s.policy) s.count (g.S.Store.pages s.store) s.frames k s.tied (g.S.Store.pages u.store) u.frames _ refl x.frames x.noted in (
       record { table = x.rest.table ∙ v.0.table; catalogue = x.rest.catalogue ∙ v.0.catalogue; count = x.rest.count ∙ v.0.count; pages = x.rest.pages ∙ v.0.pages },
       x.policy ∙ v.1,
       same_stand s u x.rest ∙ one.stands ∙ v.2,

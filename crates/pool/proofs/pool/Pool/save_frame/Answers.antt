@@ -1,4 +1,4 @@
-use Rattle.std.proofs.Common.{None, sym, refl, ap, ◌∙◌}
+use Rattle.std.proofs.Common.{sym, refl, ◌∙◌}
 use Rattle.page.specs.Types.{types}
 use Rattle.pool.proofs.Bringing.{spare_new}
 use Rattle.pool.proofs.Saves.{held_below, covers_same, clean_some, saved_one}

@@ -1,4 +1,4 @@
-use Rattle.std.proofs.Common.{◌≡◌, false, get_or, sym, ◌∙◌, rules}
+use Rattle.std.proofs.Common.{◌≡◌, false, get_or, ◌∙◌, rules}
 use Rattle.std.proofs.lemmas.Option.{MatchOption-at_some}
 use Rattle.page.specs.Types.{types}
 use Rattle.page.specs.Walks.{start_cells}

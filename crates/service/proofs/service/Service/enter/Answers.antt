@@ -14,7 +14,7 @@ returns-in_err-frame g c =
     let q = err_from_is_err_and c.from_residual.result c.from_residual.ensures.1 in
     let e = c.in_err-frame.field-0.0 in
     record {
-      entered = λ order page. subst (λ (r : Checked (Unit {0})). Entered g.V.Policy.picks g.V.Policy.touches g.S.Store.pages g.V.Policy.frames s t c.args.at r) (sym (q.1 ∙ ap Err q.2)) (not_entered g.V.Policy.picks g.V.Policy.touches g.S.Store.pages g.V.Policy.frames g.S.Store.laws.few s t c.args.at c.open.ensures.kept e (c.in_err-frame.ensures.came order page));
+      entered = subst (λ (r : Checked (Unit {0})). Entered s t c.args.at r) (sym (q.1 ∙ ap Err q.2)) (not_entered g.S.Store.laws.few s t c.args.at c.open.ensures.kept e (c.in_err-frame.ensures.came));
       cursors = c.open.ensures.cursors;
       kept = c.open.ensures.kept;
     }
@@ -24,7 +24,7 @@ returns-then-not-starts g c =
     let s = c.args.self.now in
     let t = c.open.new.self in
     record {
-      entered = λ order page. no_object g.V.Policy.picks g.V.Policy.touches g.S.Store.pages g.V.Policy.frames g.S.Store.laws.few s t c.args.at c.open.ensures.kept c.in_ok-frame.frame (c.in_ok-frame.ensures.came order page) c.starts.result c.starts.ensures c.new.result (c.new.ensures ∙ ap (fault NoObject 2) c.on_cell-place.ensures) c.if-not-starts.true;
+      entered = no_object g.S.Store.laws.few s t c.args.at c.open.ensures.kept c.in_ok-frame.frame (c.in_ok-frame.ensures.came) c.starts.result c.starts.ensures c.new.result (c.new.ensures ∙ ap (fault NoObject 2) c.on_cell-place.ensures) c.if-not-starts.true;
       cursors = c.open.ensures.cursors;
       kept = c.open.ensures.kept;
     }
@@ -34,7 +34,7 @@ returns g c =
     let s = c.args.self.now in
     let t = c.open.new.self in
     record {
-      entered = λ order page. has_object g.V.Policy.picks g.V.Policy.touches g.S.Store.pages g.V.Policy.frames g.S.Store.laws.few s t c.args.at c.open.ensures.kept c.in_ok-frame.frame (c.in_ok-frame.ensures.came order page) c.starts.result c.starts.ensures c.if-not-starts.false;
+      entered = has_object g.S.Store.laws.few s t c.args.at c.open.ensures.kept c.in_ok-frame.frame (c.in_ok-frame.ensures.came) c.starts.result c.starts.ensures c.if-not-starts.false;
       cursors = c.open.ensures.cursors;
       kept = c.open.ensures.kept;
     }

@@ -1,4 +1,4 @@
-use Rattle.std.proofs.Common.{◌<◌, true, Ok, Err, sym, refl, ap, ◌∙◌, subst, arith}
+use Rattle.std.proofs.Common.{◌<◌, true, set, Some, Err, sym, refl, ap, ◌∙◌, subst, rules, arith}
 use Rattle.std.proofs.lemmas.Result.{err_from_is_err_and}
 use Rattle.fault.specs.Refusals.{Checked}
 use Rattle.graph.specs.declared.calls.Call.{Call}
@@ -12,72 +12,137 @@ use Rattle.fault.specs.declared.kinds.Place.{Place}
 use Rattle.fault.specs.Faults.{fault, via}
 use Rattle.page.specs.Form.{field_at}
 use Rattle.service.proofs.Telling.{told_is}
-use Rattle.service.proofs.Stepping.{follow_first, follow_second, no_field, absent, target_page, not_followed, follows}
+use Rattle.page.specs.declared.link.Position.{Position}
+use Rattle.page.specs.Types.{types}
+use Rattle.store.specs.Pages.{is_page}
+use Rattle.graph.specs.Graphs.{on_cursor}
+use Rattle.pool.specs.Needs.{Covers}
+use Rattle.service.specs.Inner.{Entered}
+use Rattle.service.specs.Graphing.{graph_at, Standing}
+use Rattle.service.proofs.Reach.{err_mapped, ok_mapped}
+use Rattle.service.proofs.Stepping.{follow_first, follow_second, no_field, absent, target_page, not_followed, follow_stood, follow_covered, follows}
 use Rattle.service.proofs.service.Service.follow.Goals as goal
 
 pub returns-in_err-check_cursor : goal.returns-in_err-check_cursor
-returns-in_err-check_cursor g c order =
+returns-in_err-check_cursor g c =
     let s = c.args.self.now in
     let q = err_from_is_err_and c.from_residual.result c.from_residual.ensures.1 in
     let e = c.in_err-check_cursor.field-0.0 in
-    subst (λ (r : Checked (Unit {0})). Did g.V.Policy.picks g.V.Policy.touches g.S.Store.pages g.V.Policy.frames s s (Call.Follow c.args.cursor c.args.field c.args.second) (done r)) (sym (q.1 ∙ ap Err q.2))
-    (refuses g.V.Policy.picks g.V.Policy.touches g.S.Store.pages g.V.Policy.frames g.S.Store.laws.few g.S.Store.laws.whole s s (Call.Follow c.args.cursor c.args.field c.args.second) order (kept_by s s refl refl refl) e order refl (rests s.pool) (follow_first (setting_of s) (graph_of g.S.Store.pages s) c.args.cursor c.args.field c.args.second e (sym c.check_cursor.ensures.value ∙ c.in_err-check_cursor.was)))
+    subst (λ (r : Checked (Unit {0})). Did s s (Call.Follow c.args.cursor c.args.field c.args.second) (done r)) (sym (q.1 ∙ ap Err q.2))
+    (refuses g.S.Store.laws.few g.S.Store.laws.whole s (Call.Follow c.args.cursor c.args.field c.args.second) s (kept_by s s refl refl refl) e refl (rests s.pool) (follow_first (setting_of s) (graph_of s) c.args.cursor c.args.field c.args.second e (sym c.check_cursor.ensures.value ∙ c.in_err-check_cursor.was)))
 
 pub returns-in_err-check_cursor-2 : goal.returns-in_err-check_cursor-2
-returns-in_err-check_cursor-2 g c order =
+returns-in_err-check_cursor-2 g c =
     let s = c.args.self.now in
     let q = err_from_is_err_and c.from_residual-in_err-check_cursor-2.result c.from_residual-in_err-check_cursor-2.ensures.1 in
     let e = c.in_err-check_cursor-2.field-0.0 in
-    subst (λ (r : Checked (Unit {0})). Did g.V.Policy.picks g.V.Policy.touches g.S.Store.pages g.V.Policy.frames s s (Call.Follow c.args.cursor c.args.field c.args.second) (done r)) (sym (q.1 ∙ ap Err q.2))
-    (refuses g.V.Policy.picks g.V.Policy.touches g.S.Store.pages g.V.Policy.frames g.S.Store.laws.few g.S.Store.laws.whole s s (Call.Follow c.args.cursor c.args.field c.args.second) order (kept_by s s refl refl refl) e order refl (rests s.pool) (follow_second (setting_of s) (graph_of g.S.Store.pages s) c.args.cursor c.args.field c.args.second e (cursor_known c.args.cursor c.in_ok-check_cursor.ensures.within) (sym c.check_cursor-2.ensures.value ∙ c.in_err-check_cursor-2.was)))
+    subst (λ (r : Checked (Unit {0})). Did s s (Call.Follow c.args.cursor c.args.field c.args.second) (done r)) (sym (q.1 ∙ ap Err q.2))
+    (refuses g.S.Store.laws.few g.S.Store.laws.whole s (Call.Follow c.args.cursor c.args.field c.args.second) s (kept_by s s refl refl refl) e refl (rests s.pool) (follow_second (setting_of s) (graph_of s) c.args.cursor c.args.field c.args.second e (cursor_known c.args.cursor c.in_ok-check_cursor.ensures.within) (sym c.check_cursor-2.ensures.value ∙ c.in_err-check_cursor-2.was)))
 
 pub returns-in_err-spot : goal.returns-in_err-spot
-returns-in_err-spot g c order =
+returns-in_err-spot g c =
     let s = c.args.self.now in
     let u = c.spot.new.self in
     let q = err_from_is_err_and c.from_residual-in_err-spot.result c.from_residual-in_err-spot.ensures.1 in
     let e = c.in_err-spot.field-0.0 in
     let known = c.in_ok-check_cursor.ensures.within in
     let known' = c.in_ok-check_cursor-2.ensures.within in
-    subst (λ (r : Checked (Unit {0})). Did g.V.Policy.picks g.V.Policy.touches g.S.Store.pages g.V.Policy.frames s u (Call.Follow c.args.cursor c.args.field c.args.second) (done r)) (sym (q.1 ∙ ap Err q.2))
-    (no_field g.V.Policy.picks g.V.Policy.touches g.S.Store.pages g.V.Policy.frames g.S.Store.laws.few g.S.Store.laws.whole s order u c.args.cursor c.args.field c.args.second c.spot.ensures.kept c.spot.ensures.cursors known known' e (c.in_err-spot.ensures.reached order))
+    subst (λ (r : Checked (Unit {0})). Did s u (Call.Follow c.args.cursor c.args.field c.args.second) (done r)) (sym (q.1 ∙ ap Err q.2))
+    (no_field g.S.Store.laws.few g.S.Store.laws.whole s u c.args.cursor c.args.field c.args.second c.spot.ensures.kept c.spot.ensures.cursors known known' e (c.in_err-spot.ensures.reached))
 
 pub returns-then-pointer-eq0 : goal.returns-then-pointer-eq0
-returns-then-pointer-eq0 g c order =
+returns-then-pointer-eq0 g c =
     let s = c.args.self.now in
     let known = c.in_ok-check_cursor.ensures.within in
     let known' = c.in_ok-check_cursor-2.ensures.within in
     let u = c.spot.new.self in
     let o = c.in_ok-spot.spot in
-    let w = c.in_ok-spot.ensures.reached order in
+    let w = c.in_ok-spot.ensures.reached in
     let x = c.stored-pointer.result in
-    let eq = told_is g.V.Policy.picks g.V.Policy.touches g.S.Store.pages g.V.Policy.frames g.S.Store.laws.few g.S.Store.laws.whole s u c.args.cursor c.args.field true order c.spot.ensures.kept known o w (λ bs. field_at bs o.at.cell c.args.field) x c.stored-pointer.ensures in
-    absent g.V.Policy.picks g.V.Policy.touches g.S.Store.pages g.V.Policy.frames g.S.Store.laws.few g.S.Store.laws.whole s order u c.args.cursor c.args.field c.args.second c.spot.ensures.kept c.spot.ensures.cursors known known' o w c.new.result (c.new.ensures ∙ ap (fault AbsentLink 2) c.on_field-link.ensures) (sym eq ∙ c.if-pointer-eq0.true)
+    let eq = told_is g.S.Store.laws.few g.S.Store.laws.whole s u c.args.cursor c.args.field true c.spot.ensures.kept known o w (λ bs. field_at bs o.at.cell c.args.field) x c.stored-pointer.ensures in
+    absent g.S.Store.laws.few g.S.Store.laws.whole s u c.args.cursor c.args.field c.args.second c.spot.ensures.kept c.spot.ensures.cursors known known' o w c.new.result (c.new.ensures ∙ ap (fault AbsentLink 2) c.on_field-link.ensures) (sym eq ∙ c.if-pointer-eq0.true)
 
-pub returns-in-Err : goal.returns-in-Err
-returns-in-Err g c order =
+pub enter-requires : goal.enter-requires
+enter-requires g c =
     let s = c.args.self.now in
     let known = c.in_ok-check_cursor.ensures.within in
     let known' = c.in_ok-check_cursor-2.ensures.within in
     let u = c.spot.new.self in
     let o = c.in_ok-spot.spot in
-    let w = c.in_ok-spot.ensures.reached order in
+    let w = c.in_ok-spot.ensures.reached in
     let x = c.stored-pointer.result in
-    let eq = told_is g.V.Policy.picks g.V.Policy.touches g.S.Store.pages g.V.Policy.frames g.S.Store.laws.few g.S.Store.laws.whole s u c.args.cursor c.args.field true order c.spot.ensures.kept known o w (λ bs. field_at bs o.at.cell c.args.field) x c.stored-pointer.ensures in
+    let eq = told_is g.S.Store.laws.few g.S.Store.laws.whole s u c.args.cursor c.args.field true c.spot.ensures.kept known o w (λ bs. field_at bs o.at.cell c.args.field) x c.stored-pointer.ensures in
     let some : 0 < x = omega (arith, c.if-pointer-eq0.false) in
-    let page = target_page g.V.Policy.picks g.V.Policy.touches g.S.Store.pages g.V.Policy.frames g.S.Store.laws.few g.S.Store.laws.whole s order u c.args.cursor c.args.field c.args.second c.spot.ensures.kept c.spot.ensures.cursors known known' o w x eq some in
-    not_followed g.V.Policy.picks g.V.Policy.touches g.S.Store.pages g.V.Policy.frames g.S.Store.laws.few g.S.Store.laws.whole s order u c.args.cursor c.args.field c.args.second c.spot.ensures.kept c.spot.ensures.cursors known known' o w x eq some c.enter.new.self c.enter.ensures.kept (Err c.in-Err.fault) (c.in-Err.ensures.entered w.order page) c.in-Err.fault c.via.result refl (c.via.ensures ∙ ap (λ (l : Place). via l c.in-Err.fault) c.on_field-link.ensures)
+    ap (λ (p : Position). is_page (graph_of u).pages p.page) c.from-at.ensures
+    ∙ target_page g.S.Store.laws.few g.S.Store.laws.whole s u c.args.cursor c.args.field c.args.second c.spot.ensures.kept c.spot.ensures.cursors known known' o w x eq some
+
+pub returns-in_err-map_err : goal.returns-in_err-map_err
+returns-in_err-map_err g c =
+    let s = c.args.self.now in
+    let known = c.in_ok-check_cursor.ensures.within in
+    let known' = c.in_ok-check_cursor-2.ensures.within in
+    let u = c.spot.new.self in
+    let o = c.in_ok-spot.spot in
+    let w = c.in_ok-spot.ensures.reached in
+    let x = c.stored-pointer.result in
+    let eq = told_is g.S.Store.laws.few g.S.Store.laws.whole s u c.args.cursor c.args.field true c.spot.ensures.kept known o w (λ bs. field_at bs o.at.cell c.args.field) x c.stored-pointer.ensures in
+    let some : 0 < x = omega (arith, c.if-pointer-eq0.false) in
+    let at = c.from-at.ensures in
+    let t = c.enter.new.self in
+    let q = err_from_is_err_and c.from_residual-in_err-map_err.result c.from_residual-in_err-map_err.ensures.1 in
+    let m = err_mapped c.enter.result c.map_err.result _ (via c.on_field-link.result) c.in_err-map_err.field-0.0 c.in_err-map_err.was c.map_err.ensures.cases (λ e y k. search rules) in
+    subst (λ (r : Checked (Unit {0})). Did s t (Call.Follow c.args.cursor c.args.field c.args.second) (done r)) (sym (q.1 ∙ ap Err q.2))
+    (not_followed g.S.Store.laws.few g.S.Store.laws.whole s u c.args.cursor c.args.field c.args.second c.spot.ensures.kept c.spot.ensures.cursors known known' o w x eq some t c.enter.ensures.kept c.enter.result (subst (λ (p : Position). Entered u t p c.enter.result) at c.enter.ensures.entered) m.0 c.in_err-map_err.field-0.0 m.1.0 (m.1.1 ∙ ap (λ (l : Place). via l m.0) c.on_field-link.ensures))
+
+pub invariant_of-self-clause-stand : goal.invariant_of-self-clause-stand
+invariant_of-self-clause-stand g c =
+    let s = c.args.self.now in
+    let known = c.in_ok-check_cursor.ensures.within in
+    let known' = c.in_ok-check_cursor-2.ensures.within in
+    let u = c.spot.new.self in
+    let o = c.in_ok-spot.spot in
+    let w = c.in_ok-spot.ensures.reached in
+    let x = c.stored-pointer.result in
+    let eq = told_is g.S.Store.laws.few g.S.Store.laws.whole s u c.args.cursor c.args.field true c.spot.ensures.kept known o w (λ bs. field_at bs o.at.cell c.args.field) x c.stored-pointer.ensures in
+    let some : 0 < x = omega (arith, c.if-pointer-eq0.false) in
+    let at = c.from-at.ensures in
+    let t = c.enter.new.self in
+    let went = ok_mapped c.enter.result c.map_err.result _ tt c.in_ok-map_err.was c.map_err.ensures.cases in
+    let entered = subst (λ (p : Position). Entered u t p c.enter.result) at c.enter.ensures.entered in
+    subst (λ (p : Position). Standing (types t.pool.catalogue) (graph_at t.pool (set t.cursors c.args.second (Some p)))) (sym at)
+    (follow_stood g.S.Store.laws.few g.S.Store.laws.whole s u c.args.cursor c.args.field c.args.second c.spot.ensures.kept c.spot.ensures.cursors known known' o w x eq some t c.enter.ensures.kept c.enter.result entered went)
+
+pub invariant_of-self-clause-covered : goal.invariant_of-self-clause-covered
+invariant_of-self-clause-covered g c =
+    let s = c.args.self.now in
+    let known = c.in_ok-check_cursor.ensures.within in
+    let known' = c.in_ok-check_cursor-2.ensures.within in
+    let u = c.spot.new.self in
+    let o = c.in_ok-spot.spot in
+    let w = c.in_ok-spot.ensures.reached in
+    let x = c.stored-pointer.result in
+    let eq = told_is g.S.Store.laws.few g.S.Store.laws.whole s u c.args.cursor c.args.field true c.spot.ensures.kept known o w (λ bs. field_at bs o.at.cell c.args.field) x c.stored-pointer.ensures in
+    let some : 0 < x = omega (arith, c.if-pointer-eq0.false) in
+    let at = c.from-at.ensures in
+    let t = c.enter.new.self in
+    let went = ok_mapped c.enter.result c.map_err.result _ tt c.in_ok-map_err.was c.map_err.ensures.cases in
+    let entered = subst (λ (p : Position). Entered u t p c.enter.result) at c.enter.ensures.entered in
+    subst (λ (p : Position). Covers t.pool.table.slot_of (on_cursor (set t.cursors c.args.second (Some p)))) (sym at)
+    (follow_covered g.S.Store.laws.few g.S.Store.laws.whole s u c.args.cursor c.args.field c.args.second c.spot.ensures.kept c.spot.ensures.cursors known known' o w x eq some t c.enter.ensures.kept c.enter.result entered went)
 
 pub returns : goal.returns
-returns g c order =
+returns g c =
     let s = c.args.self.now in
     let known = c.in_ok-check_cursor.ensures.within in
     let known' = c.in_ok-check_cursor-2.ensures.within in
     let u = c.spot.new.self in
     let o = c.in_ok-spot.spot in
-    let w = c.in_ok-spot.ensures.reached order in
+    let w = c.in_ok-spot.ensures.reached in
     let x = c.stored-pointer.result in
-    let eq = told_is g.V.Policy.picks g.V.Policy.touches g.S.Store.pages g.V.Policy.frames g.S.Store.laws.few g.S.Store.laws.whole s u c.args.cursor c.args.field true order c.spot.ensures.kept known o w (λ bs. field_at bs o.at.cell c.args.field) x c.stored-pointer.ensures in
+    let eq = told_is g.S.Store.laws.few g.S.Store.laws.whole s u c.args.cursor c.args.field true c.spot.ensures.kept known o w (λ bs. field_at bs o.at.cell c.args.field) x c.stored-pointer.ensures in
     let some : 0 < x = omega (arith, c.if-pointer-eq0.false) in
-    let page = target_page g.V.Policy.picks g.V.Policy.touches g.S.Store.pages g.V.Policy.frames g.S.Store.laws.few g.S.Store.laws.whole s order u c.args.cursor c.args.field c.args.second c.spot.ensures.kept c.spot.ensures.cursors known known' o w x eq some in
-    follows g.V.Policy.picks g.V.Policy.touches g.S.Store.pages g.V.Policy.frames g.S.Store.laws.few g.S.Store.laws.whole s order u c.args.cursor c.args.field c.args.second c.spot.ensures.kept c.spot.ensures.cursors known known' o w x eq some c.enter.new.self c.enter.ensures.kept (Ok tt) (c.in_default.ensures.entered w.order page) refl _ refl refl
+    let at = c.from-at.ensures in
+    let t = c.enter.new.self in
+    let went = ok_mapped c.enter.result c.map_err.result _ tt c.in_ok-map_err.was c.map_err.ensures.cases in
+    let entered = subst (λ (p : Position). Entered u t p c.enter.result) at c.enter.ensures.entered in
+    follows g.S.Store.laws.few g.S.Store.laws.whole s u c.args.cursor c.args.field c.args.second c.spot.ensures.kept c.spot.ensures.cursors known known' o w x eq some t c.enter.ensures.kept c.enter.result entered went _ refl (ap (λ (p : Position). set t.cursors c.args.second (Some p)) at)

@@ -7,7 +7,6 @@ use Rattle.graph.specs.Openings as openings
 use Rattle.graph.specs.Steps as steps
 use Rattle.graph.specs.Steps.{held, named}
 use Rattle.graph.specs.declared.calls.Value.TheVariants.{Number, Names}
-use Rattle.graph.specs.declared.calls.Answer.TheVariants.{Granted}
 use Rattle.service.specs.Calls.{number, rests, Did}
 use Rattle.service.specs.Inner.{bytes_in, spot_of}
 use Rattle.service.specs.Serving.{setting_of, graph_of}
@@ -17,38 +16,38 @@ use Rattle.service.proofs.Telling.{cursor_known, told_field, told_ok, glance_cur
 use Rattle.service.proofs.service.Service.glance.Goals as goal
 
 pub returns-in_err-check_cursor : goal.returns-in_err-check_cursor
-returns-in_err-check_cursor g c order =
+returns-in_err-check_cursor g c =
     let s = c.args.self.now in
     let q = err_from_is_err_and c.from_residual.result c.from_residual.ensures.1 in
     let e = c.in_err-check_cursor.field-0.0 in
-    subst (λ (r : Checked ℕ). Did g.V.Policy.picks g.V.Policy.touches g.S.Store.pages g.V.Policy.frames s s (Call.Glance c.args.cursor c.args.field) (number r)) (sym (q.1 ∙ ap Err q.2))
-    (refuses g.V.Policy.picks g.V.Policy.touches g.S.Store.pages g.V.Policy.frames g.S.Store.laws.few g.S.Store.laws.whole s s (Call.Glance c.args.cursor c.args.field) order (kept_by s s refl refl refl) e order refl (rests s.pool)
-    (glance_cursor (setting_of s) (graph_of g.S.Store.pages s) c.args.cursor c.args.field e (sym c.check_cursor.ensures.value ∙ c.in_err-check_cursor.was)))
+    subst (λ (r : Checked ℕ). Did s s (Call.Glance c.args.cursor c.args.field) (number r)) (sym (q.1 ∙ ap Err q.2))
+    (refuses g.S.Store.laws.few g.S.Store.laws.whole s (Call.Glance c.args.cursor c.args.field) s (kept_by s s refl refl refl) e refl (rests s.pool)
+    (glance_cursor (setting_of s) (graph_of s) c.args.cursor c.args.field e (sym c.check_cursor.ensures.value ∙ c.in_err-check_cursor.was)))
 
 pub returns-in_err-spot : goal.returns-in_err-spot
-returns-in_err-spot g c order =
+returns-in_err-spot g c =
     let s = c.args.self.now in
     let t = c.spot.new.self in
     let q = err_from_is_err_and c.from_residual-in_err-spot.result c.from_residual-in_err-spot.ensures.1 in
     let e = c.in_err-spot.field-0.0 in
     let known = c.in_ok-check_cursor.ensures.within in
-    let G = graph_of g.S.Store.pages s in
-    subst (λ (r : Checked ℕ). Did g.V.Policy.picks g.V.Policy.touches g.S.Store.pages g.V.Policy.frames s t (Call.Glance c.args.cursor c.args.field) (number r)) (sym (q.1 ∙ ap Err q.2))
-    (refused_field g.V.Policy.picks g.V.Policy.touches g.S.Store.pages g.V.Policy.frames g.S.Store.laws.few g.S.Store.laws.whole s t c.args.cursor c.args.field true order c.spot.ensures.kept known (Call.Glance c.args.cursor c.args.field) (openings.glance c.args.cursor c.args.field) e (c.in_err-spot.ensures.reached order)
+    let G = graph_of s in
+    subst (λ (r : Checked ℕ). Did s t (Call.Glance c.args.cursor c.args.field) (number r)) (sym (q.1 ∙ ap Err q.2))
+    (refused_field g.S.Store.laws.few g.S.Store.laws.whole s t c.args.cursor c.args.field true c.spot.ensures.kept known (Call.Glance c.args.cursor c.args.field) (openings.glance c.args.cursor c.args.field) e (c.in_err-spot.ensures.reached)
     (told_field (setting_of s) G (λ y. Names y) (λ o. named (held o)) (steps.cursor c.args.cursor) (steps.link_field (setting_of s) G c.args.cursor c.args.field) e (cursor_known c.args.cursor known)))
 
 pub returns : goal.returns
-returns g c order =
+returns g c =
     let s = c.args.self.now in
     let t = c.spot.new.self in
     let known = c.in_ok-check_cursor.ensures.within in
-    let G = graph_of g.S.Store.pages s in
+    let G = graph_of s in
     let o = c.in_ok-spot.spot in
-    let w = c.in_ok-spot.ensures.reached order in
-    let is = field_is g.V.Policy.picks g.V.Policy.touches g.S.Store.pages g.V.Policy.frames g.S.Store.laws.few g.S.Store.laws.whole s t c.args.cursor c.args.field true order c.spot.ensures.kept known o w in
+    let w = c.in_ok-spot.ensures.reached in
+    let is = field_is g.S.Store.laws.few g.S.Store.laws.whole s t c.args.cursor c.args.field true c.spot.ensures.kept known o w in
     let x = c.field.result in
     let slots = t.pool.table.slot_of in
-    let eq : x ≡ field_shown (setting_of t).types slots (bytes_in t o.frame) o.at.cell c.args.field = told_is g.V.Policy.picks g.V.Policy.touches g.S.Store.pages g.V.Policy.frames g.S.Store.laws.few g.S.Store.laws.whole s t c.args.cursor c.args.field true order c.spot.ensures.kept known o w (λ bs. field_shown (setting_of t).types slots bs o.at.cell c.args.field) x c.field.ensures in
-    told_field_of g.V.Policy.picks g.V.Policy.touches g.S.Store.pages g.V.Policy.frames g.S.Store.laws.few g.S.Store.laws.whole s t c.args.cursor c.args.field true order c.spot.ensures.kept known (Call.Glance c.args.cursor c.args.field) (openings.glance c.args.cursor c.args.field) (Ok o) w (Names (named (held (spot_of t c.args.field o)))) (Granted (Number x))
+    let eq : x ≡ field_shown (setting_of t).types slots (bytes_in t o.frame) o.at.cell c.args.field = told_is g.S.Store.laws.few g.S.Store.laws.whole s t c.args.cursor c.args.field true c.spot.ensures.kept known o w (λ bs. field_shown (setting_of t).types slots bs o.at.cell c.args.field) x c.field.ensures in
+    told_field_of g.S.Store.laws.few g.S.Store.laws.whole s t c.args.cursor c.args.field true c.spot.ensures.kept known (Call.Glance c.args.cursor c.args.field) (openings.glance c.args.cursor c.args.field) (Ok o) w (Names (named (held (spot_of t c.args.field o)))) (Ok (Number x))
     (told_ok (setting_of s) G (λ y. Names y) (λ o. named (held o)) (steps.cursor c.args.cursor) (steps.link_field (setting_of s) G c.args.cursor c.args.field) (spot_of t c.args.field o) (cursor_known c.args.cursor known) is)
-    (x, refl, glanced g.V.Policy.picks g.V.Policy.touches g.S.Store.pages g.V.Policy.frames g.S.Store.laws.few g.S.Store.laws.whole s t c.args.cursor c.args.field true order c.spot.ensures.kept known o w refl x eq)
+    (x, refl, glanced g.S.Store.laws.few g.S.Store.laws.whole s t c.args.cursor c.args.field true c.spot.ensures.kept known o w refl x eq)

@@ -16,8 +16,8 @@ returns-in_err-at g c =
     let q = err_from_is_err_and c.from_residual.result c.from_residual.ensures.1 in
     let e = c.in_err-at.field-0.0 in
     record {
-      reached = λ order. subst (λ (r : Checked Spot). Reached g.V.Policy.picks g.V.Policy.touches g.S.Store.pages g.V.Policy.frames s s c.args.cursor c.args.field c.args.link r) (sym (q.1 ∙ ap Err q.2))
-          (no_cursor g.V.Policy.picks g.V.Policy.touches g.S.Store.pages g.V.Policy.frames s c.args.cursor order c.args.field c.args.link e (sym c.position.ensures ∙ c.in_err-at.was));
+      reached = subst (λ (r : Checked Spot). Reached s s c.args.cursor c.args.field c.args.link r) (sym (q.1 ∙ ap Err q.2))
+          (no_cursor s c.args.cursor c.args.field c.args.link e (sym c.position.ensures ∙ c.in_err-at.was));
       cursors = refl;
       kept = kept_by s s refl refl refl;
     }
@@ -31,9 +31,9 @@ returns-in_err-frame g c =
     let at = c.in_ok-at.at in
     let on = stood (get_or s.cursors c.args.cursor None) _ at (sym c.position.ensures ∙ c.in_ok-at.was) in
     record {
-      reached = λ order. subst (λ (r : Checked Spot). Reached g.V.Policy.picks g.V.Policy.touches g.S.Store.pages g.V.Policy.frames s t c.args.cursor c.args.field c.args.link r) (sym (q.1 ∙ ap Err q.2))
-          (not_opened g.V.Policy.picks g.V.Policy.touches g.S.Store.pages g.V.Policy.frames s c.args.cursor order c.args.field c.args.link t at on e
-          (c.in_err-frame.ensures.came order (cursor_page g.V.Policy.picks g.V.Policy.touches g.S.Store.pages g.V.Policy.frames s c.args.cursor order at on)));
+      reached = subst (λ (r : Checked Spot). Reached s t c.args.cursor c.args.field c.args.link r) (sym (q.1 ∙ ap Err q.2))
+          (not_opened s c.args.cursor c.args.field c.args.link t at on e
+          c.in_err-frame.ensures.came);
       cursors = c.open.ensures.cursors;
       kept = c.open.ensures.kept;
     }
@@ -45,8 +45,8 @@ returns-then-field-kind g c =
     let at = c.in_ok-at.at in
     let on = stood (get_or s.cursors c.args.cursor None) _ at (sym c.position.ensures ∙ c.in_ok-at.was) in
     record {
-      reached = λ order. no_field g.V.Policy.picks g.V.Policy.touches g.S.Store.pages g.V.Policy.frames s c.args.cursor order c.args.field c.args.link t at on c.open.ensures.kept c.in_ok-frame.frame
-          (c.in_ok-frame.ensures.came order (cursor_page g.V.Policy.picks g.V.Policy.touches g.S.Store.pages g.V.Policy.frames s c.args.cursor order at on))
+      reached = no_field s c.args.cursor c.args.field c.args.link t at on c.open.ensures.kept c.in_ok-frame.frame
+          c.in_ok-frame.ensures.came
           c.kind-kind.result c.kind-kind.ensures c.new.result (c.new.ensures ∙ ap (fault NoField 2) c.on_field-place.ensures) (le-ltb _ _ c.if-field-kind.true);
       cursors = c.open.ensures.cursors;
       kept = c.open.ensures.kept;
@@ -60,8 +60,8 @@ returns-then-is_link-link g c =
     let d = c.kind-kind.result in
     let on = stood (get_or s.cursors c.args.cursor None) _ at (sym c.position.ensures ∙ c.in_ok-at.was) in
     record {
-      reached = λ order. wrong_kind g.V.Policy.picks g.V.Policy.touches g.S.Store.pages g.V.Policy.frames s c.args.cursor order c.args.field c.args.link t at on c.open.ensures.kept c.in_ok-frame.frame
-          (c.in_ok-frame.ensures.came order (cursor_page g.V.Policy.picks g.V.Policy.touches g.S.Store.pages g.V.Policy.frames s c.args.cursor order at on))
+      reached = wrong_kind s c.args.cursor c.args.field c.args.link t at on c.open.ensures.kept c.in_ok-frame.frame
+          c.in_ok-frame.ensures.came
           d c.kind-kind.ensures c.new-then-is_link-link.result (c.new-then-is_link-link.ensures ∙ ap (fault WrongKind 2) c.on_field-place.ensures) (lt-ltb _ _ c.if-field-kind.false)
           (ap (asks c.args.link) (sym c.is_link.ensures) ∙ other_kind c.is_link.result c.args.link c.if-is_link-link.true);
       cursors = c.open.ensures.cursors;
@@ -76,10 +76,15 @@ returns g c =
     let d = c.kind-kind.result in
     let on = stood (get_or s.cursors c.args.cursor None) _ at (sym c.position.ensures ∙ c.in_ok-at.was) in
     record {
-      reached = λ order. there_is g.V.Policy.picks g.V.Policy.touches g.S.Store.pages g.V.Policy.frames s c.args.cursor order c.args.field c.args.link t at on c.open.ensures.kept c.in_ok-frame.frame
-          (c.in_ok-frame.ensures.came order (cursor_page g.V.Policy.picks g.V.Policy.touches g.S.Store.pages g.V.Policy.frames s c.args.cursor order at on))
+      reached = there_is s c.args.cursor c.args.field c.args.link t at on c.open.ensures.kept c.in_ok-frame.frame
+          c.in_ok-frame.ensures.came
           d c.kind-kind.ensures c.if-field-kind.false
           (ap (asks c.args.link) (sym c.is_link.ensures) ∙ right_kind c.is_link.result c.args.link c.if-is_link-link.false);
       cursors = c.open.ensures.cursors;
       kept = c.open.ensures.kept;
     }
+
+pub open-requires : goal.open-requires
+open-requires g c =
+    let s = c.args.self.now in
+    cursor_page s c.args.cursor c.in_ok-at.at (stood (get_or s.cursors c.args.cursor None) _ c.in_ok-at.at (sym c.position.ensures ∙ c.in_ok-at.was))
