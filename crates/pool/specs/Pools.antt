@@ -1,12 +1,15 @@
 -- Pools, and what their calls leave. Assumes nothing.
-use Rattle.std.specs.Prelude.{◌≡◌, ℕ, Bool, List}
+use Rattle.std.specs.Prelude.{◌≡◌, ℕ, Bool, true, List}
 use Rattle.fault.specs.Refusals.{Checked}
+use Rattle.page.specs.Form.{type_at}
 use Rattle.page.specs.Types.{types}
+use Rattle.page.specs.declared.descriptor.Descriptor.{Descriptor}
 use Rattle.frame.specs.declared.frame.Frame.{Frame}
 use Rattle.store.specs.Pages.{Page}
 use Rattle.store.specs.declared.Store.{Ghosts as StoreGhosts}
 use Rattle.policy.specs.declared.Policy.{Ghosts as PolicyGhosts}
-use Rattle.stands.specs.Frames.{long_bytes, stands_for}
+use Rattle.stands.specs.Frames.{HasAt, long_bytes, stands_for}
+use Rattle.graph.specs.Steps.{starts_at}
 use Rattle.pool.specs.Opening.{Opened}
 use Rattle.pool.specs.Saving.{Saved}
 use Rattle.pool.specs.declared.pool.Pool.{Pool}
@@ -19,6 +22,15 @@ module _ {S V : Type 0} {stores : StoreGhosts S} {policies : PolicyGhosts V} whe
   -- the bytes of a frame's page, in long pointers
   abbrev pub long_of : Pool S V stores policies → Frame → List ℕ
   long_of q f = long_bytes (types q.catalogue) q.table.page_of f
+
+  -- frame k has f, and an object starts at the cell of its page
+  pub record StartsIn (q : Pool S V stores policies) (k : ℕ) (f : Frame) (cell : ℕ) : Type 0 where
+    pub has : HasAt q.frames k f
+    pub begins : starts_at (types q.catalogue) (long_of q f) cell ≡ true
+
+  -- the type of the object at the cell of a frame's page
+  abbrev pub kind_in : Pool S V stores policies → Frame → ℕ → Descriptor
+  kind_in q f cell = type_at (types q.catalogue) (long_of q f) cell
 
   -- table, catalogue and the numbers of frames and pages are as they were
   pub record Rest (q q' : Pool S V stores policies) : Type 0 where

@@ -15,7 +15,7 @@ use Rattle.page.specs.declared.catalogue.ClosedCatalogue.{ClosedCatalogue}
 use Rattle.page.specs.declared.descriptor.Descriptor.{Descriptor}
 use Rattle.frame.specs.declared.frame.Frame.{Frame}
 use Rattle.store.specs.Pages.{is_page}
-use Rattle.stands.specs.Frames.{HasAt, long_bytes}
+use Rattle.stands.specs.Frames.{long_bytes}
 use Rattle.page.specs.declared.link.Position.{Position}
 use Rattle.graph.specs.Graphs.{opening}
 use Rattle.graph.specs.Steps as steps
@@ -24,6 +24,7 @@ use Rattle.graph.proofs.Grants.{Grants, given}
 use Rattle.graph.proofs.Kept.{begins_in}
 use Rattle.graph.proofs.Opens.{opens as opens-lawful}
 use Rattle.pool.specs.Opening.{held_bytes}
+use Rattle.pool.specs.Pools.{StartsIn, kind_in}
 use Rattle.pool.proofs.Enters.{is_there}
 use Rattle.service.specs.Calls.{Moves, rests, opens}
 use Rattle.service.specs.Inner.{asks, bytes_in, Object, Came, Reached}
@@ -162,10 +163,10 @@ module _ {S V : Type 0} {stores : StoreGhosts S} {policies : PolicyGhosts V} (s 
         }
 
         -- the type of the object, as the pool tells it
-        module _ (d : Descriptor) (told : (fr : Frame) → HasAt t.pool.frames i fr → starts_at (setting_of t).types (long_bytes (setting_of t).types t.pool.table.page_of fr) at.cell ≡ true → d ≡ type_at (setting_of t).types (long_bytes (setting_of t).types t.pool.table.page_of fr) at.cell) where
+        module _ (d : Descriptor) (told : (fr : Frame) → StartsIn t.pool i fr at.cell → d ≡ kind_in t.pool fr at.cell) where
           kind_after : d ≡ type_at (setting_of t).types bs at.cell
           unfolding object
-          kind_after = told w.there.0 w.there.1.0 object.begins ∙ ap (λ (x : List ℕ). type_at (setting_of t).types x at.cell) (sym long)
+          kind_after = told w.there.0 (record { has = w.there.1.0; begins = object.begins }) ∙ ap (λ (x : List ℕ). type_at (setting_of t).types x at.cell) (sym long)
 
           kind_is : d ≡ type_at (setting_of s).types bs at.cell
           kind_is = kind_after ∙ ap (λ (k : ClosedCatalogue). type_at (types k) bs at.cell) kept.catalogue

@@ -12,7 +12,7 @@ use Rattle.page.specs.declared.catalogue.ClosedCatalogue.{ClosedCatalogue}
 use Rattle.frame.specs.Links.{address}
 use Rattle.frame.specs.declared.frame.Frame.{Frame}
 use Rattle.store.specs.Pages.{Whole, page_at}
-use Rattle.stands.specs.Frames.{HasAt, long_bytes}
+use Rattle.stands.specs.Frames.{long_bytes}
 use Rattle.graph.specs.Steps.{Answer}
 use Rattle.graph.specs.declared.calls.Call.{Call}
 use Rattle.graph.specs.declared.calls.Call.TheVariants.{Read, Target, Glance}
@@ -28,6 +28,7 @@ use Rattle.page.specs.Links.{pointed}
 use Rattle.graph.proofs.Opens.{spot}
 use Rattle.pool.specs.Looking.{owner_of, field_shown}
 use Rattle.pool.specs.Opening.{held_bytes}
+use Rattle.pool.specs.Pools.{long_of, StartsIn, kind_in}
 use Rattle.pool.proofs.Looks.{field_link, field_served}
 use Rattle.service.specs.Calls.{Moves, Did}
 use Rattle.service.specs.Inner.{asks, bytes_in, spot_of, Reached}
@@ -115,8 +116,8 @@ module _ {S V : Type 0} {stores : StoreGhosts S} {policies : PolicyGhosts V} (fe
       small = subst (λ (x : List ℕ). f < (type_at (setting_of t).types x o.at.cell).size) long w.there.1
 
       -- what the pool tells of the field
-      pub told_is : (T : List ℕ → ℕ) (x : ℕ) → ((k : Frame) → HasAt t.pool.frames o.frame k → starts_at (setting_of t).types (long_bytes (setting_of t).types t.pool.table.page_of k) o.at.cell ≡ true → f < (type_at (setting_of t).types (long_bytes (setting_of t).types t.pool.table.page_of k) o.at.cell).size → x ≡ T (long_bytes (setting_of t).types t.pool.table.page_of k)) → x ≡ T bs
-      told_is T x told = told fr w.there.0.has w.there.0.begins small ∙ ap T (sym long)
+      pub told_is : (T : List ℕ → ℕ) (x : ℕ) → ((k : Frame) → StartsIn t.pool o.frame k o.at.cell → f < (kind_in t.pool k o.at.cell).size → x ≡ T (long_of t.pool k)) → x ≡ T bs
+      told_is T x told = told fr (record { has = w.there.0.has; begins = w.there.0.begins }) small ∙ ap T (sym long)
 
       pub field_is : steps.field (setting_of s) (graph_of s) (asks link) c f ≡ Ok (spot_of t f o)
       field_is = sym w.answer

@@ -2,13 +2,13 @@
 ghost use Rattle.std.specs.Prelude.{◌≡◌, ◌+◌, ◌<◌, true, None, slice_index, slice_index_or};
 ghost use Rattle.page.specs.Cells.{cell_at};
 ghost use Rattle.page.specs.Descriptors.{declared};
-ghost use Rattle.page.specs.Form.{field_at, type_at};
+ghost use Rattle.page.specs.Form.{field_at};
 ghost use Rattle.page.specs.Types.{types};
 ghost use Rattle.frame.specs.declared.frame.Frame.{Frame};
 ghost use Rattle.stands.specs.Frames.{HasAt};
 ghost use Rattle.graph.specs.Steps.{starts_at};
 ghost use Rattle.pool.specs.Looking.{field_shown};
-ghost use Rattle.pool.specs.Pools.{long_of};
+ghost use Rattle.pool.specs.Pools.{long_of, StartsIn, kind_in};
 
 use crate::pool::Pool;
 use frame::{Frame, starts_at, to_pointer};
@@ -33,7 +33,7 @@ impl<S: Store, V: Policy> Pool<S, V> {
 
     // The type of the object that starts at the cell of the page in frame k, of no fields where none starts there.
     pub fn kind(&self, k: usize, cell: u64) -> Descriptor
-        ensures { (f : Frame) → HasAt self.now.frames k f → starts_at (types self.now.catalogue) (long_of self.now f) cell ≡ true → result ≡ type_at (types self.now.catalogue) (long_of self.now f) cell }
+        ensures { (f : Frame) → StartsIn self.now k f cell → result ≡ kind_in self.now f cell }
     {
         let header = self.header(k, cell);
         self.catalogue
@@ -43,7 +43,7 @@ impl<S: Store, V: Policy> Pool<S, V> {
 
     // The header of the object that starts at the cell of the page in frame k, or 0.
     fn header(&self, k: usize, cell: u64) -> u64
-        ensures { (f : Frame) → HasAt self.now.frames k f → starts_at (types self.now.catalogue) (long_of self.now f) cell ≡ true → (result ≡ cell_at (long_of self.now f) cell) × (declared (types self.now.catalogue) result ≡ true) }
+        ensures { (f : Frame) → StartsIn self.now k f cell → (result ≡ cell_at (long_of self.now f) cell) × (declared (types self.now.catalogue) result ≡ true) }
     {
         self.number(k, cell)
     }
@@ -67,7 +67,7 @@ impl<S: Store, V: Policy> Pool<S, V> {
     // What stands in a field of the object that starts at the cell of the page in frame k: a number, or the address of
     // its link.
     pub fn field(&self, k: usize, cell: u64, field: u64) -> u64
-        ensures { (f : Frame) → HasAt self.now.frames k f → starts_at (types self.now.catalogue) (long_of self.now f) cell ≡ true → field < (type_at (types self.now.catalogue) (long_of self.now f) cell).size → result ≡ field_shown (types self.now.catalogue) self.now.table.slot_of (long_of self.now f) cell field }
+        ensures { (f : Frame) → StartsIn self.now k f cell → field < (kind_in self.now f cell).size → result ≡ field_shown (types self.now.catalogue) self.now.table.slot_of (long_of self.now f) cell field }
     {
         self.in_field(k, cell, field)
     }
@@ -75,7 +75,7 @@ impl<S: Store, V: Policy> Pool<S, V> {
     // What a field of the object that starts at the cell of the page in frame k holds in the store: a number, or a long
     // pointer.
     pub fn stored(&self, k: usize, cell: u64, field: u64) -> u64
-        ensures { (f : Frame) → HasAt self.now.frames k f → starts_at (types self.now.catalogue) (long_of self.now f) cell ≡ true → field < (type_at (types self.now.catalogue) (long_of self.now f) cell).size → result ≡ field_at (long_of self.now f) cell field }
+        ensures { (f : Frame) → StartsIn self.now k f cell → field < (kind_in self.now f cell).size → result ≡ field_at (long_of self.now f) cell field }
     {
         let link = self.kind(k, cell).is_link(field);
         to_pointer(&self.table, link, self.in_field(k, cell, field))

@@ -7,12 +7,12 @@ use Rattle.pool.proofs.Looks.{field_within, field_stored}
 use Rattle.pool.proofs.pool.Pool.stored.Goals as goal
 
 pub returns : goal.returns
-returns g c f h e l =
+returns g c f x l =
     let s = c.args.self.now in
     let n : ℕ = c.args.cell in
     let i : ℕ = c.args.field in
     let y : ℕ = get_or f.cells (n + 1 + i) 0 in
     c.to_pointer.ensures
-    ∙ ap (λ x. cond c.is_link-link.result (pointer s.table.page_of x) x) (c.in_field.ensures f h (field_within (types s.catalogue) s.table.slot_of s.table.page_of (g.S.Store.pages s.store) s.frames s.pages (g.V.Policy.frames s.policy) s.count s.tied s.table.within.1.1.0 c.args.k f h n i e l))
-    ∙ ap (λ b. cond b (pointer s.table.page_of y) y) (c.is_link-link.ensures ∙ ap (λ (d : Descriptor). linked d i) (c.kind.ensures f h e))
-    ∙ field_stored (types s.catalogue) s.table.slot_of s.table.page_of (g.S.Store.pages s.store) s.frames s.pages (g.V.Policy.frames s.policy) s.count s.tied s.table.within.1.1.0 c.args.k f h n i e l
+    ∙ ap (λ y. cond c.is_link-link.result (pointer s.table.page_of y) y) (c.in_field.ensures f x.has (field_within (types s.catalogue) s.table.slot_of s.table.page_of (g.S.Store.pages s.store) s.frames s.pages (g.V.Policy.frames s.policy) s.count s.tied s.table.within.1.1.0 c.args.k f x.has n i x.begins l))
+    ∙ ap (λ b. cond b (pointer s.table.page_of y) y) (c.is_link-link.ensures ∙ ap (λ (d : Descriptor). linked d i) (c.kind.ensures f x))
+    ∙ field_stored (types s.catalogue) s.table.slot_of s.table.page_of (g.S.Store.pages s.store) s.frames s.pages (g.V.Policy.frames s.policy) s.count s.tied s.table.within.1.1.0 c.args.k f x.has n i x.begins l
