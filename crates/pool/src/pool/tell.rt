@@ -19,10 +19,7 @@ impl<S: Store, V: Policy> Pool<S, V> {
         if slot >= u64::from(self.table.size()) {
             return None;
         }
-        match self.table.page(slot as u16 + 1) {
-            0 => None,
-            page => Some(u64::from(page)),
-        }
+        self.table.page(slot as u16 + 1).map(u64::from)
     }
 
     // Whether there is a page of that number.
