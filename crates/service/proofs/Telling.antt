@@ -139,14 +139,14 @@ module _ {S V : Type 0} {stores : StoreGhosts S} {policies : PolicyGhosts V} (fe
       link_is =
           let p = t.pool in
           ap (λ (x : List ℕ). is_link (length (stores.pages p.store)) (field_at x o.at.cell f)) (long o w)
-          ∙ field_link (types p.catalogue) p.table.slot_of p.table.page_of (stores.pages p.store) p.frames p.pages (policies.frames p.policy) p.count t.pool.tied p.table.within.1.1.0 o.frame w.there.0.frame w.there.0.has o.at.cell f w.there.0.begins (small o w) linked_after
+          ∙ field_link p o.frame w.there.0.frame o.at.cell f (record { has = w.there.0.has; begins = w.there.0.begins }) (small o w) linked_after
 
       pub link_served : (held (spot_of t f o) ≡ 0 → ⊥) → 0 < get_or t.pool.table.slot_of (held (spot_of t f o) / 64) 0
       link_served some =
           let p = t.pool in
           let e = ap (λ (x : List ℕ). field_at x o.at.cell f) (long o w) in
           subst (λ y. 0 < get_or p.table.slot_of (y / 64) 0) (sym e)
-          (field_served (types p.catalogue) p.table.slot_of p.table.page_of (stores.pages p.store) p.frames p.pages (policies.frames p.policy) p.count t.pool.tied p.table.within.1.1.0 o.frame w.there.0.frame w.there.0.has o.at.cell f w.there.0.begins (small o w) linked_after (λ z. some (e ∙ z)))
+          (field_served p o.frame w.there.0.frame o.at.cell f (record { has = w.there.0.has; begins = w.there.0.begins }) (small o w) linked_after (λ z. some (e ∙ z)))
 
       shown_link : field_shown (setting_of t).types t.pool.table.slot_of (bytes_in t o.frame) o.at.cell f ≡ address t.pool.table.slot_of (held (spot_of t f o))
       shown_link = ap (λ b. cond b (address t.pool.table.slot_of (held (spot_of t f o))) (held (spot_of t f o))) (ap (λ (x : List ℕ). linked (type_at (setting_of t).types x o.at.cell) f) (long o w) ∙ linked_after)

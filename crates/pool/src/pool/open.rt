@@ -45,7 +45,7 @@ impl<S: Store, V: Policy> Pool<S, V> {
     {
         self.frames
             .iter()
-            .position(|held| held.is_some_and(|frame| frame.page == n))
+            .position(|held| held.as_ref().is_some_and(|frame| frame.page == n))
     }
 
     // Brings page n, given by its bytes, into a frame beside the pages that cursors stand on.

@@ -1,6 +1,5 @@
 use Rattle.std.proofs.Common.{ℕ, ◌+◌, cond, get_or, ap, ◌∙◌}
 use Rattle.page.specs.Descriptors.{linked}
-use Rattle.page.specs.Types.{types}
 use Rattle.page.specs.declared.descriptor.Descriptor.{Descriptor}
 use Rattle.frame.specs.Links.{pointer}
 use Rattle.pool.proofs.Looks.{field_within, field_stored}
@@ -13,6 +12,6 @@ returns g c f x l =
     let i : ℕ = c.args.field in
     let y : ℕ = get_or f.cells (n + 1 + i) 0 in
     c.to_pointer.ensures
-    ∙ ap (λ y. cond c.is_link-link.result (pointer s.table.page_of y) y) (c.in_field.ensures f x.has (field_within (types s.catalogue) s.table.slot_of s.table.page_of (g.S.Store.pages s.store) s.frames s.pages (g.V.Policy.frames s.policy) s.count s.tied s.table.within.1.1.0 c.args.k f x.has n i x.begins l))
+    ∙ ap (λ y. cond c.is_link-link.result (pointer s.table.page_of y) y) (c.in_field.ensures f x.has (field_within s c.args.k f n i x l))
     ∙ ap (λ b. cond b (pointer s.table.page_of y) y) (c.is_link-link.ensures ∙ ap (λ (d : Descriptor). linked d i) (c.kind.ensures f x))
-    ∙ field_stored (types s.catalogue) s.table.slot_of s.table.page_of (g.S.Store.pages s.store) s.frames s.pages (g.V.Policy.frames s.policy) s.count s.tied s.table.within.1.1.0 c.args.k f x.has n i x.begins l
+    ∙ field_stored s c.args.k f n i x l
