@@ -5,13 +5,13 @@ use page::DeclaringCatalogue;
 use std::fmt;
 
 // What is wrong with a catalogue file, and on which line.
-#[derive(Clone, Copy)]
+#[derive(Clone, Copy, Debug, PartialEq, Eq)]
 pub struct BadLine<'a> {
     line: u64,
     why: Why<'a>,
 }
 
-#[derive(Clone, Copy)]
+#[derive(Clone, Copy, Debug, PartialEq, Eq)]
 enum Why<'a> {
     Numbers(Mistake<'a>),
     Refused(Fault),
@@ -26,22 +26,32 @@ impl fmt::Display for BadLine<'_> {
                 let number = fault.cause;
                 match Cause::try_from(number) {
                     Ok(cause) => write!(f, "line {line}: refused by {number}, {cause}"),
-                    Err(_) => write!(f, "line {line}: refused by {number}, a cause of another store"),
+                    Err(_) => write!(
+                        f,
+                        "line {line}: refused by {number}, a cause of another store"
+                    ),
                 }
             }
         }
     }
 }
 
-fn declare_line<'a>(catalogue: &mut DeclaringCatalogue, text: &'a str) -> Result<(), Why<'a>> {
-    let [size, mask] = match numbers::<2>(text.split_whitespace()) {
-        Ok(pair) => pair,
-        Err(mistake) => return Err(Why::Numbers(mistake)),
-    };
-    match catalogue.declare(size, mask) {
-        Ok(_) => Ok(()),
-        Err(fault) => Err(Why::Refused(fault)),
+impl<'a> From<Mistake<'a>> for Why<'a> {
+    fn from(mistake: Mistake<'a>) -> Self {
+        Why::Numbers(mistake)
     }
+}
+
+impl From<Fault> for Why<'_> {
+    fn from(fault: Fault) -> Self {
+        Why::Refused(fault)
+    }
+}
+
+fn declare_line<'a>(catalogue: &mut DeclaringCatalogue, text: &'a str) -> Result<(), Why<'a>> {
+    let [size, mask] = numbers::<2>(text.split_whitespace())?;
+    catalogue.declare(size, mask)?;
+    Ok(())
 }
 
 // Declares the types of the file; blank lines are passed over.
@@ -49,14 +59,9 @@ pub(crate) fn declare_lines<'a>(
     catalogue: &mut DeclaringCatalogue,
     text: &'a str,
 ) -> Result<(), BadLine<'a>> {
-    let mut line = 0u64;
-    for text in text.lines() {
-        line = line.saturating_add(1);
-        if text.trim().is_empty() {
-            continue;
-        }
-        if let Err(why) = declare_line(catalogue, text) {
-            return Err(BadLine { line, why });
+    for (line, text) in (1u64..).zip(text.lines()) {
+        if !text.trim().is_empty() {
+            declare_line(catalogue, text).map_err(|why| BadLine { line, why })?;
         }
     }
     Ok(())

@@ -3,7 +3,7 @@ use crate::numbers::number;
 use std::fmt;
 
 // Which store the pages are seen through.
-#[derive(Clone, Copy)]
+#[derive(Clone, Copy, Debug, PartialEq, Eq)]
 pub(crate) enum StoreKind {
     Image,
     Frozen,
@@ -12,7 +12,7 @@ pub(crate) enum StoreKind {
     Split(u64),
 }
 
-#[derive(Clone, Copy)]
+#[derive(Clone, Copy, Debug, PartialEq, Eq)]
 pub(crate) struct Inspect<'a> {
     pub(crate) pages: &'a str,
     // a catalogue other than the studio's
@@ -20,7 +20,7 @@ pub(crate) struct Inspect<'a> {
     pub(crate) store: StoreKind,
 }
 
-#[derive(Clone, Copy)]
+#[derive(Clone, Copy, Debug, PartialEq, Eq)]
 pub(crate) enum Command<'a> {
     Help,
     Inspect(Inspect<'a>),
@@ -28,7 +28,7 @@ pub(crate) enum Command<'a> {
 }
 
 // What is wrong with a command line.
-#[derive(Clone, Copy)]
+#[derive(Clone, Copy, Debug, PartialEq, Eq)]
 pub(crate) enum Misuse<'a> {
     NoCommand,
     UnknownCommand(&'a str),
@@ -61,101 +61,81 @@ impl fmt::Display for Misuse<'_> {
     }
 }
 
-fn to_store<'a>(option: &'a str, value: &'a str) -> Result<StoreKind, Misuse<'a>> {
-    match value {
-        "image" => return Ok(StoreKind::Image),
-        "frozen" => return Ok(StoreKind::Frozen),
-        "checks" => return Ok(StoreKind::Checks),
-        _ => {}
+impl StoreKind {
+    fn named(value: &str) -> Option<StoreKind> {
+        Some(match value {
+            "image" => StoreKind::Image,
+            "frozen" => StoreKind::Frozen,
+            "checks" => StoreKind::Checks,
+            _ => StoreKind::Split(number(value.strip_prefix("split:")?).ok()?),
+        })
     }
-    if let Some(first) = value.strip_prefix("split:") {
-        if let Ok(first) = number(first) {
-            return Ok(StoreKind::Split(first));
-        }
-    }
-    Err(Misuse::BadValue { option, value })
+}
+
+fn to_store<'a>(value: &'a str) -> Result<StoreKind, Misuse<'a>> {
+    StoreKind::named(value).ok_or(Misuse::BadValue {
+        option: "--store",
+        value,
+    })
 }
 
 // A value that is given at most once.
 fn once<'a>(
-    option: &'a str,
-    given: Option<&'a str>,
+    given: &mut Option<&'a str>,
     value: &'a str,
-) -> Result<Option<&'a str>, Misuse<'a>> {
-    if given.is_some() {
-        return Err(Misuse::Twice(option));
+    twice: Misuse<'a>,
+) -> Result<(), Misuse<'a>> {
+    match given.replace(value) {
+        None => Ok(()),
+        Some(_) => Err(twice),
     }
-    Ok(Some(value))
 }
 
 fn read_inspect<'a>(words: &'a [String]) -> Result<Command<'a>, Misuse<'a>> {
     let mut pages = None;
     let mut catalogue = None;
     let mut store = None;
-    let mut words = words.iter();
+    let mut words = words.iter().map(String::as_str);
     while let Some(word) = words.next() {
-        let word = word.as_str();
         if !word.starts_with("-") {
-            if pages.is_some() {
-                return Err(Misuse::Extra(word));
-            }
-            pages = Some(word);
+            once(&mut pages, word, Misuse::Extra(word))?;
             continue;
         }
-        if word != "--catalogue" && word != "--store" {
-            return Err(Misuse::UnknownOption(word));
-        }
-        let Some(value) = words.next() else {
-            return Err(Misuse::NoValue(word));
+        let given = match word {
+            "--catalogue" => &mut catalogue,
+            "--store" => &mut store,
+            _ => return Err(Misuse::UnknownOption(word)),
         };
-        if word == "--store" {
-            store = once(word, store, value.as_str())?;
-        } else {
-            catalogue = once(word, catalogue, value.as_str())?;
-        }
+        let value = words.next().ok_or(Misuse::NoValue(word))?;
+        once(given, value, Misuse::Twice(word))?;
     }
-    let Some(pages) = pages else {
-        return Err(Misuse::NoPages);
-    };
-    let store = match store {
-        Some(value) => to_store("--store", value)?,
-        None => StoreKind::Image,
-    };
     Ok(Command::Inspect(Inspect {
-        pages,
+        pages: pages.ok_or(Misuse::NoPages)?,
         catalogue,
-        store,
+        store: store.map_or(Ok(StoreKind::Image), to_store)?,
     }))
 }
 
 fn read_seal<'a>(words: &'a [String]) -> Result<Command<'a>, Misuse<'a>> {
-    let Some((first, rest)) = words.split_first() else {
-        return Err(Misuse::NoPages);
-    };
-    if first.as_str().starts_with("-") {
-        return Err(Misuse::UnknownOption(first.as_str()));
+    let (first, rest) = words.split_first().ok_or(Misuse::NoPages)?;
+    let first = first.as_str();
+    if first.starts_with("-") {
+        return Err(Misuse::UnknownOption(first));
     }
     match rest.first() {
-        None => Ok(Command::Seal(first.as_str())),
+        None => Ok(Command::Seal(first)),
         Some(extra) => Err(Misuse::Extra(extra.as_str())),
     }
 }
 
 // The arguments after the program's own name.
 pub(crate) fn read_command(words: &[String]) -> Result<Command<'_>, Misuse<'_>> {
-    let Some((first, rest)) = words.split_first() else {
-        return Err(Misuse::NoCommand);
-    };
+    let (first, rest) = words.split_first().ok_or(Misuse::NoCommand)?;
     match first.as_str() {
         "--help" | "-h" | "help" => Ok(Command::Help),
         "inspect" => read_inspect(rest),
         "seal" => read_seal(rest),
-        word => {
-            if word.starts_with("-") {
-                Err(Misuse::UnknownOption(word))
-            } else {
-                Err(Misuse::UnknownCommand(word))
-            }
-        }
+        word if word.starts_with("-") => Err(Misuse::UnknownOption(word)),
+        word => Err(Misuse::UnknownCommand(word)),
     }
 }

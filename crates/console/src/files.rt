@@ -6,10 +6,7 @@ use std::rt::Files;
 use std::{fs, io};
 
 pub(crate) fn is_symlink<R: Files>(files: &R, path: &str) -> bool {
-    match fs::symlink_metadata(files, path) {
-        Ok(metadata) => metadata.is_symlink(),
-        Err(_) => false,
-    }
+    fs::symlink_metadata(files, path).is_ok_and(|metadata| metadata.is_symlink())
 }
 
 // The copy has the permission bits of the old file.
@@ -31,8 +28,7 @@ pub(crate) fn replace<R: Files>(
     bytes: &[u8],
 ) -> io::Result<()> {
     let beside = format!(in heap; "{path}.balunsep-new")?;
-    let written = write_beside(files, path, beside.as_str(), bytes);
-    if let Err(e) = written {
+    if let Err(e) = write_beside(files, path, beside.as_str(), bytes) {
         let _ = fs::remove_file(files, beside.as_str());
         return Err(e);
     }

@@ -1,6 +1,6 @@
 // The command `inspect`: a verdict for each page, the objects of the lawful ones, and the totals.
 use crate::lines::{PageLine, Totals};
-use crate::names::{field_name, type_name};
+use crate::names::TypeNames;
 use fault::{Cause, Fault};
 use inspection::{Survey, inspect_page, object_type};
 use page::{ClosedCatalogue, Descriptor, Part, Reader, cell, to_link};
@@ -8,34 +8,31 @@ use std::io;
 use std::io::Write;
 use store::Store;
 
-// The catalogue, and whether its types are the studio's, which have names.
+// The catalogue, and the names of its types from 1 on: no names for the types of a file.
 #[derive(Clone, Copy)]
-pub(crate) struct Types {
+pub(crate) struct Types<'t> {
     pub(crate) catalogue: ClosedCatalogue,
-    pub(crate) named: bool,
+    pub(crate) names: &'t [TypeNames<'t>],
+}
+
+impl<'t> Types<'t> {
+    fn names_of(&self, kind: u64) -> Option<&'t TypeNames<'t>> {
+        self.names.get((kind as usize).checked_sub(1)?)
+    }
 }
 
 impl Totals {
-    fn none() -> Totals {
-        Totals {
-            pages: 0,
-            lawful: 0,
-            objects: 0,
-            links: 0,
-        }
-    }
-
     fn with(self, verdict: Result<Survey, Fault>) -> Totals {
         let pages = self.pages.saturating_add(1);
-        match verdict {
-            Err(_) => Totals { pages, ..self },
-            Ok(survey) => Totals {
+        verdict.map_or(
+            Totals { pages, ..self },
+            |survey| Totals {
                 pages,
                 lawful: self.lawful.saturating_add(1),
                 objects: self.objects.saturating_add(survey.objects),
                 links: self.links.saturating_add(survey.links),
             },
-        }
+        )
     }
 }
 
@@ -49,26 +46,23 @@ fn write_number<W: Write>(out: &mut W, number: u64, link: bool, pages: u64) -> i
     }
 }
 
-fn write_label<W: Write>(out: &mut W, kind: u64, field: u64, named: bool) -> io::Result<()> {
-    if named {
-        let name = field_name(kind, field);
-        write!(out, " {name}")
-    } else {
-        write!(out, " field {field}")
+fn write_label<W: Write>(out: &mut W, field: u64, names: Option<&TypeNames<'_>>) -> io::Result<()> {
+    match names.and_then(|names| names.field(field)) {
+        Some(name) => write!(out, " {name}"),
+        None => write!(out, " field {field}"),
     }
 }
 
 fn write_fields<W: Write>(
     out: &mut W,
     bytes: &[u8],
-    kind: u64,
     descriptor: Descriptor,
-    named: bool,
+    names: Option<&TypeNames<'_>>,
     pages: u64,
 ) -> io::Result<()> {
     for field in 0..descriptor.size {
         write!(out, "{}", if field == 0 { ":" } else { "," })?;
-        write_label(out, kind, field, named)?;
+        write_label(out, field, names)?;
         let number = cell(bytes, field.saturating_add(1)).unwrap_or(0);
         write_number(out, number, descriptor.is_link(field), pages)?;
     }
@@ -79,7 +73,7 @@ fn write_object<W: Write>(
     out: &mut W,
     at: u64,
     bytes: &[u8],
-    types: &Types,
+    types: &Types<'_>,
     pages: u64,
 ) -> io::Result<()> {
     let kind = cell(bytes, 0).unwrap_or(0);
@@ -87,11 +81,11 @@ fn write_object<W: Write>(
         return Ok(());
     };
     write!(out, "  cell {at} type {kind}")?;
-    if types.named {
-        let name = type_name(kind);
-        write!(out, " {name}")?;
+    let names = types.names_of(kind);
+    if let Some(names) = names {
+        write!(out, " {}", names.name)?;
     }
-    write_fields(out, bytes, kind, descriptor, types.named, pages)
+    write_fields(out, bytes, descriptor, names, pages)
 }
 
 // A page has at most 63 objects.
@@ -100,7 +94,7 @@ fn write_objects<W: Write>(
     bytes: &[u8],
     page: u64,
     pages: u64,
-    types: &Types,
+    types: &Types<'_>,
 ) -> io::Result<()> {
     let Ok(mut reader) = Reader::new(bytes, page, pages, &types.catalogue) else {
         return Ok(());
@@ -127,7 +121,7 @@ fn write_page<S: Store, W: Write>(
     store: &mut S,
     page: u64,
     pages: u64,
-    types: &Types,
+    types: &Types<'_>,
     out: &mut W,
 ) -> io::Result<Result<Survey, Fault>> {
     let mut bytes = [0u8; 512];
@@ -147,12 +141,12 @@ fn write_page<S: Store, W: Write>(
 // Writes every page, and answers the totals.
 pub(crate) fn inspect_store<S: Store, W: Write>(
     store: &mut S,
-    types: &Types,
+    types: &Types<'_>,
     out: &mut W,
 ) -> io::Result<Totals> {
-    let mut totals = Totals::none();
+    let mut totals = Totals::default();
     let pages = (*store).count();
-    for page in 1..pages.saturating_add(1) {
+    for page in 1..=pages {
         let verdict = write_page(store, page, pages, types, out)?;
         totals = totals.with(verdict);
     }

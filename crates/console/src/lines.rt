@@ -30,7 +30,7 @@ impl fmt::Display for PageLine {
 }
 
 // The sums over all pages.
-#[derive(Clone, Copy)]
+#[derive(Clone, Copy, Debug, Default, PartialEq, Eq)]
 pub(crate) struct Totals {
     pub(crate) pages: u64,
     pub(crate) lawful: u64,

@@ -1,72 +1,36 @@
 // The names of the studio's types and of their fields.
-pub(crate) fn type_name(kind: u64) -> &'static str {
-    match kind {
-        1 => "numeral",
-        2 => "lead line",
-        3 => "part",
-        4 => "view",
-        5 => "sheet",
-        _ => "",
+#[derive(Clone, Copy)]
+pub(crate) struct TypeNames<'t> {
+    pub(crate) name: &'t str,
+    fields: &'t [&'t str],
+}
+
+impl<'t> TypeNames<'t> {
+    pub(crate) fn field(&self, field: u64) -> Option<&'t str> {
+        self.fields.get(field as usize).copied()
     }
 }
 
-pub(crate) fn field_name(kind: u64, field: u64) -> &'static str {
-    match kind {
-        1 => numeral_field(field),
-        2 => lead_field(field),
-        3 => part_field(field),
-        4 => view_field(field),
-        5 => sheet_field(field),
-        _ => "",
-    }
-}
-
-fn numeral_field(field: u64) -> &'static str {
-    match field {
-        0 => "number",
-        1 => "part",
-        2 => "next numeral",
-        _ => "",
-    }
-}
-
-fn lead_field(field: u64) -> &'static str {
-    match field {
-        0 => "x1",
-        1 => "y1",
-        2 => "x2",
-        3 => "y2",
-        4 => "numeral",
-        5 => "next lead",
-        _ => "",
-    }
-}
-
-fn part_field(field: u64) -> &'static str {
-    match field {
-        0 => "kind",
-        1 => "first child",
-        2 => "next sibling",
-        3 => "numeral",
-        _ => "",
-    }
-}
-
-fn view_field(field: u64) -> &'static str {
-    match field {
-        0 => "figure",
-        1 => "first lead",
-        2 => "next view",
-        3 => "first part",
-        _ => "",
-    }
-}
-
-fn sheet_field(field: u64) -> &'static str {
-    match field {
-        0 => "number",
-        1 => "first view",
-        2 => "next sheet",
-        _ => "",
-    }
-}
+// In the order of the types' numbers, from 1.
+pub(crate) const STUDIO: &[TypeNames<'static>] = &[
+    TypeNames {
+        name: "numeral",
+        fields: &["number", "part", "next numeral"],
+    },
+    TypeNames {
+        name: "lead line",
+        fields: &["x1", "y1", "x2", "y2", "numeral", "next lead"],
+    },
+    TypeNames {
+        name: "part",
+        fields: &["kind", "first child", "next sibling", "numeral"],
+    },
+    TypeNames {
+        name: "view",
+        fields: &["figure", "first lead", "next view", "first part"],
+    },
+    TypeNames {
+        name: "sheet",
+        fields: &["number", "first view", "next sheet"],
+    },
+];

@@ -9,7 +9,7 @@ use std::num::IntErrorKind;
 use std::str::SplitWhitespace;
 
 // What is wrong with a line of numbers.
-#[derive(Clone, Copy)]
+#[derive(Clone, Copy, Debug, PartialEq, Eq)]
 pub enum Mistake<'a> {
     TooFew { wanted: usize, found: usize },
     TooMany { wanted: usize },
@@ -33,13 +33,10 @@ impl fmt::Display for Mistake<'_> {
 pub(crate) fn number(word: &str) -> Result<u64, Mistake<'_>>
     ensures { ParsesUnsigned 64 10 word.now result }
 {
-    match word.parse::<u64>() {
-        Ok(n) => Ok(n),
-        Err(e) => match e.kind() {
-            IntErrorKind::PosOverflow => Err(Mistake::TooLarge(word)),
-            _ => Err(Mistake::NoNumber(word)),
-        },
-    }
+    word.parse::<u64>().map_err(|e| match e.kind() {
+        IntErrorKind::PosOverflow => Mistake::TooLarge(word),
+        _ => Mistake::NoNumber(word),
+    })
 }
 
 // As many numbers as are wanted, and nothing else.

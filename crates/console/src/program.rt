@@ -1,15 +1,16 @@
 // The whole program over what it is given, so that a test can run it: `main` only passes the process's own.
 use crate::catalogue::declare_lines;
-use crate::command::{Command, Inspect, StoreKind, read_command};
+use crate::command::{Command, Inspect, Misuse, StoreKind, read_command};
 use crate::files::{is_symlink, replace};
 use crate::inspect::{Types, inspect_store};
 use crate::lines::Totals;
+use crate::names::STUDIO;
 use checks::Checks;
 use page::{DeclaringCatalogue, studio_catalogue};
 use split::Split;
 use std::io::{BufWriter, Write};
 use std::rt::Files;
-use std::{fs, io};
+use std::{fmt, fs, io};
 use store::{Frozen, Image, Store};
 
 const HELP: &str = "balunsep: pages of a drawing, inspected
@@ -57,42 +58,58 @@ pub enum Ending {
     Failed,
 }
 
-// The bytes of a file; none after it was said why it can't be read.
-fn read_file<R: Files + AllocGlobal, E: Write>(
-    rt: &R,
-    path: &str,
-    err: &mut E,
-) -> io::Result<Option<Vec<u8>>> {
-    match fs::read(rt, path) {
-        Ok(bytes) => Ok(Some(bytes)),
-        Err(e) => {
-            writeln!(err, "balunsep: cannot read {path}: {e}")?;
-            Ok(None)
+// Why a command did not do its work, as it is said after the program's name.
+#[derive(Drop)]
+enum Failure<'a> {
+    Misuse(Misuse<'a>),
+    Unread { path: &'a str, why: io::Error },
+    Unwritten { path: &'a str, why: io::Error },
+    // the line, and what is wrong with it
+    Types { path: &'a str, why: String },
+    Symlink(&'a str),
+    // what there was to say could not be written
+    Stream(io::Error),
+}
+
+impl fmt::Display for Failure<'_> {
+    fn fmt<W: fmt::Write>(&self, f: &mut fmt::Formatter<W>) -> fmt::Result {
+        match self {
+            Failure::Misuse(misuse) => write!(f, "{misuse}"),
+            Failure::Unread { path, why } => write!(f, "cannot read {path}: {why}"),
+            Failure::Unwritten { path, why } => write!(f, "cannot write {path}: {why}"),
+            Failure::Types { path, why } => write!(f, "{path}: {why}"),
+            Failure::Symlink(path) => {
+                write!(f, "{path} is a symbolic link; name the file itself")
+            }
+            Failure::Stream(why) => write!(f, "{why}"),
         }
     }
 }
 
-fn file_types<R: Files + AllocGlobal, E: Write>(
+impl From<io::Error> for Failure<'_> {
+    fn from(why: io::Error) -> Self {
+        Failure::Stream(why)
+    }
+}
+
+fn read_file<'a, R: Files + AllocGlobal>(rt: &R, path: &'a str) -> Result<Vec<u8>, Failure<'a>> {
+    fs::read(rt, path).map_err(|why| Failure::Unread { path, why })
+}
+
+fn file_types<'a, R: Files + AllocGlobal>(
     rt: &R,
-    path: &str,
-    err: &mut E,
-) -> io::Result<Option<Types>> {
-    let text = match fs::read_to_string(rt, path) {
-        Ok(text) => text,
-        Err(e) => {
-            writeln!(err, "balunsep: cannot read {path}: {e}")?;
-            return Ok(None);
-        }
-    };
+    path: &'a str,
+) -> Result<Types<'static>, Failure<'a>> {
+    let text = fs::read_to_string(rt, path).map_err(|why| Failure::Unread { path, why })?;
     let mut catalogue = DeclaringCatalogue::new();
     if let Err(bad) = declare_lines(&mut catalogue, text.as_str()) {
-        writeln!(err, "balunsep: {path}: {bad}")?;
-        return Ok(None);
+        let why = format!(in rt.alloc(); "{bad}").map_err(io::Error::from)?;
+        return Err(Failure::Types { path, why });
     }
-    Ok(Some(Types {
+    Ok(Types {
         catalogue: catalogue.close(),
-        named: false,
-    }))
+        names: &[],
+    })
 }
 
 // What stands in the file past its last page.
@@ -112,7 +129,7 @@ fn write_past<W: Write>(out: &mut W, length: usize) -> io::Result<()> {
 fn inspect_split<W: Write>(
     bytes: &mut [u8],
     first: u64,
-    types: &Types,
+    types: &Types<'_>,
     out: &mut W,
 ) -> io::Result<Totals> {
     let pages = bytes.len() / 512;
@@ -122,10 +139,11 @@ fn inspect_split<W: Write>(
     inspect_store(&mut store, types, out)
 }
 
+// Each kind of store is a type of its own, which no closure and no `dyn Store` can stand for: each is inspected in its arm.
 fn inspect_bytes<W: Write>(
     bytes: &mut [u8],
     kind: StoreKind,
-    types: &Types,
+    types: &Types<'_>,
     out: &mut W,
 ) -> io::Result<Totals> {
     match kind {
@@ -145,59 +163,58 @@ fn inspect_bytes<W: Write>(
     }
 }
 
-fn inspect<R: Files + AllocGlobal, O: Write + Drop, E: Write>(
+fn inspect<'a, R: Files + AllocGlobal, O: Write + Drop>(
     rt: &R,
-    asked: Inspect<'_>,
+    asked: Inspect<'a>,
     out: &mut BufWriter<O>,
-    err: &mut E,
-) -> io::Result<Ending> {
+) -> Result<(), Failure<'a>> {
     let types = match asked.catalogue {
         None => Types {
             catalogue: studio_catalogue(),
-            named: true,
+            names: STUDIO,
         },
-        Some(path) => match file_types(rt, path, err)? {
-            Some(types) => types,
-            None => return Ok(Ending::Failed),
-        },
+        Some(path) => file_types(rt, path)?,
     };
-    let Some(mut bytes) = read_file(rt, asked.pages, err)? else {
-        return Ok(Ending::Failed);
-    };
+    let mut bytes = read_file(rt, asked.pages)?;
     let totals = inspect_bytes(bytes.as_mut_slice(), asked.store, &types, out)?;
     write_past(out, bytes.len())?;
     writeln!(out, "{totals}")?;
-    out.flush()?;
-    Ok(Ending::Done)
+    Ok(())
 }
 
 // Writes the checks of a file that is laid out for the checks layer.
-fn seal<R: Files + AllocGlobal, O: Write + Drop, E: Write>(
+fn seal<'a, R: Files + AllocGlobal, O: Write + Drop>(
     rt: &R,
-    path: &str,
+    path: &'a str,
     out: &mut BufWriter<O>,
-    err: &mut E,
-) -> io::Result<Ending> {
-    let Some(mut bytes) = read_file(rt, path, err)? else {
-        return Ok(Ending::Failed);
-    };
+) -> Result<(), Failure<'a>> {
+    let mut bytes = read_file(rt, path)?;
     let changed = Checks::new(Image::new(bytes.as_mut_slice())).seal();
     if changed > 0 {
         if is_symlink(rt, path) {
-            writeln!(
-                err,
-                "balunsep: {path} is a symbolic link; name the file itself"
-            )?;
-            return Ok(Ending::Failed);
+            return Err(Failure::Symlink(path));
         }
-        if let Err(e) = replace(rt, rt.alloc(), path, bytes.as_slice()) {
-            writeln!(err, "balunsep: cannot write {path}: {e}")?;
-            return Ok(Ending::Failed);
-        }
+        replace(rt, rt.alloc(), path, bytes.as_slice()).map_err(|why| Failure::Unwritten {
+            path,
+            why,
+        })?;
     }
     writeln!(out, "changed {changed} cells")?;
+    Ok(())
+}
+
+fn run<'a, R: Files + AllocGlobal, O: Write + Drop>(
+    rt: &R,
+    words: &'a [String],
+    out: &mut BufWriter<O>,
+) -> Result<(), Failure<'a>> {
+    match read_command(words).map_err(Failure::Misuse)? {
+        Command::Help => writeln!(out, "{HELP}")?,
+        Command::Inspect(asked) => inspect(rt, asked, out)?,
+        Command::Seal(path) => seal(rt, path, out)?,
+    }
     out.flush()?;
-    Ok(Ending::Done)
+    Ok(())
 }
 
 // Runs the program on the words after its name.
@@ -207,17 +224,12 @@ pub fn start<R: Files + AllocGlobal, O: Write + Drop, E: Write>(
     out: &mut BufWriter<O>,
     err: &mut E,
 ) -> io::Result<Ending> {
-    match read_command(words) {
-        Err(misuse) => {
-            writeln!(err, "balunsep: {misuse}")?;
+    match run(rt, words, out) {
+        Ok(()) => Ok(Ending::Done),
+        Err(Failure::Stream(why)) => Err(why),
+        Err(failure) => {
+            writeln!(err, "balunsep: {failure}")?;
             Ok(Ending::Failed)
         }
-        Ok(Command::Help) => {
-            writeln!(out, "{HELP}")?;
-            out.flush()?;
-            Ok(Ending::Done)
-        }
-        Ok(Command::Inspect(asked)) => inspect(rt, asked, out, err),
-        Ok(Command::Seal(path)) => seal(rt, path, out, err),
     }
 }
