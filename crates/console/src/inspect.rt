@@ -88,7 +88,6 @@ fn write_object<W: Write>(
     write_fields(out, bytes, descriptor, names, pages)
 }
 
-// A page has at most 63 objects.
 fn write_objects<W: Write>(
     out: &mut W,
     bytes: &[u8],
@@ -99,10 +98,7 @@ fn write_objects<W: Write>(
     let Ok(mut reader) = Reader::new(bytes, page, pages, &types.catalogue) else {
         return Ok(());
     };
-    for _ in 0..64 {
-        let Some(Ok(Part::Object { cell, bytes })) = reader.step() else {
-            return Ok(());
-        };
+    while let Some(Ok(Part::Object { cell, bytes })) = reader.step() {
         write_object(out, cell, bytes, types, pages)?;
     }
     Ok(())

@@ -41,21 +41,17 @@ pub(crate) fn number(word: &str) -> Result<u64, Mistake<'_>>
 
 // As many numbers as are wanted, and nothing else.
 pub(crate) fn numbers<'a, const N: usize>(
-    words: SplitWhitespace<'a>,
+    mut words: SplitWhitespace<'a>,
 ) -> Result<[u64; N], Mistake<'a>>
     ensures { IfOk result (λ ns. (ws : List (List ℕ)) × Words (split_whitespace_rest words.entry) ws × Write ws ns) }
 {
     let mut all = [0u64; N];
-    let mut found = 0;
-    for word in words {
-        if found >= N {
-            return Err(Mistake::TooMany { wanted: N });
-        }
-        all[found] = number(word)?;
-        found += 1;
+    for (found, slot) in all.iter_mut().enumerate() {
+        let word = words.next().ok_or(Mistake::TooFew { wanted: N, found })?;
+        *slot = number(word)?;
     }
-    if found < N {
-        return Err(Mistake::TooFew { wanted: N, found });
+    match words.next() {
+        None => Ok(all),
+        Some(_) => Err(Mistake::TooMany { wanted: N }),
     }
-    Ok(all)
 }

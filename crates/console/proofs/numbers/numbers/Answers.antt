@@ -1,16 +1,17 @@
-use Rattle.std.proofs.Common.{sym, ap}
+use Rattle.std.proofs.Common.{sym}
 use Rattle.std.specs.Str.Iter.{split_whitespace_rest}
 use Rattle.console.proofs.Parsing.{first_of, none_yet, one_more, no_more}
 use Rattle.console.proofs.numbers.numbers.Goals as goal
 
-pub loop-word-init : goal.loop-word-init
-loop-word-init g c = rw (ap split_whitespace_rest c.into_iter-word-iterator.ensures.into_iter_gives) (none_yet (split_whitespace_rest c.args.words) g.row.N)
+pub loop-found-init : goal.loop-found-init
+loop-found-init g c = none_yet (split_whitespace_rest c.args.words) g.row.N
 
-pub loop-word-preserved : goal.loop-word-preserved
-loop-word-preserved g c =
-    let first = first_of _ c.in-Some.word.now _ c.in-Some.ensures.steps in
-    let reads = rw c.in_ok-all.was at c.number.ensures in
-    one_more c.loop-word.invariant c.if-found.false first (rw c.in-Some.word-is (reads.0.0, sym reads.1))
+pub loop-found-preserved : goal.loop-found-preserved
+loop-found-preserved g c =
+    let steps = rw c.in_ok-word.ensures.ok_part at c.next.ensures.steps in
+    let first = first_of _ c.in_ok-word.word.now _ steps in
+    let reads = rw c.in_ok-slot.was at c.number.ensures in
+    one_more c.loop-found.invariant c.loop-found-test.true first (reads.0.0, sym reads.1)
 
-pub returns : goal.returns
-returns g c = no_more c.loop-word.invariant c.if-found-2.false c.in-None.ensures.steps.1
+pub returns-in-None : goal.returns-in-None
+returns-in-None g c = no_more c.loop-found.invariant c.loop-found-test.false c.in-None.ensures.steps.1
