@@ -15,7 +15,7 @@ use Rattle.graph.proofs.Fields.{Keeps}
 use Rattle.graph.proofs.Starts.{Passes, both, parts, tested, among, object_fault, objects_parts, objects_both, object_fits, list_from, starts, sound, agree}
 
 among_left : (k : ℕ) (xs ys : List ℕ) → among k xs ≡ true → among k (xs ++ ys) ≡ true
-among_left k [] ys h = let z : ◌≡◌ {A = ℕ} 0 1 = cc in absurd (omega arith)
+among_left k [] ys h = absurd cc
 among_left k (x ∷ xs) ys h =
     ⊎_elim (λ e. or_left (eqb k x) (among k (xs ++ ys)) e) (λ e. or_right (eqb k x) (among k (xs ++ ys)) (among_left k xs ys e)) (or_cases (eqb k x) (among k xs) h)
 

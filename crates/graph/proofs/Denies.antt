@@ -33,7 +33,7 @@ else_denies true e h = passed
 else_denies false e h = stopped h
 
 pub denied : {A : Type 0} {P : Fault → Type 0} (r : Checked A) (e : Fault) → Denies P r → r ≡ Err e → P e
-denied (Ok x) e passed h = let z : ◌≡◌ {A = ℕ} 0 1 = cc in absurd (omega arith)
+denied (Ok x) e passed h = absurd cc
 denied {P = P} (Err d) e (stopped k) h = let z : d ≡ e = cc in subst P z k
 
 abbrev Low : Fault → Type 0
@@ -81,11 +81,11 @@ seq_ok : {A B : Type 0} (r : Checked A) (x : A) (q : Checked B) → r ≡ Ok x �
 seq_ok r x q h = ap (λ t. t >> q) h
 
 last_err : {A : Type 0} (b : Bool) (e : Fault) (x : A) → b ≡ false → (b else e) >> Ok x ≡ Err e
-last_err true e x h = let z : ◌≡◌ {A = ℕ} 0 1 = cc in absurd (omega arith)
+last_err true e x h = absurd cc
 last_err false e x h = refl
 
 err_last : {A : Type 0} (b : Bool) (d e : Fault) (x : A) → (b else d) >> Ok x ≡ Err e → b ≡ false
-err_last true d e x h = let z : ◌≡◌ {A = ℕ} 0 1 = cc in absurd (omega arith)
+err_last true d e x h = absurd cc
 err_last false d e x h = refl
 
 abbrev fetch : Content → ℕ → Checked (List ℕ)
@@ -93,12 +93,12 @@ fetch k n = readable k n >> Ok (held_by k [])
 
 -- no mark has the cause 18
 marks_low : (n : ℕ) (k : Content) (e : Fault) → Whole k → e.cause ≡ 18 → fetch k n ≡ Err e → ⊥
-marks_low n (bytes bs) e w c h = let z : ◌≡◌ {A = ℕ} 0 1 = cc in absurd (omega arith)
+marks_low n (bytes bs) e w c h = absurd cc
 marks_low n (marked cause layer) e w c h = let z : ◌≡◌ {A = Fault} (mark cause layer n) e = cc in w (ap (λ (x : Fault). x.cause) z ∙ c)
 
 is_read : (n : ℕ) (k : Content) (bs : List ℕ) → fetch k n ≡ Ok bs → k ≡ bytes bs
 is_read n (bytes cs) bs h = let z : cs ≡ bs = cc in ap bytes z
-is_read n (marked c l) bs h = let z : ◌≡◌ {A = ℕ} 0 1 = cc in absurd (omega arith)
+is_read n (marked c l) bs h = absurd cc
 
 module _ (s : Setting) (g : Graph) (n : ℕ) where
   abbrev rest : List ℕ → Checked (List ℕ)

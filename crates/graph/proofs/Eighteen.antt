@@ -35,7 +35,7 @@ known_denies (Ok x) d k = k x refl
 known_denies (Err e) (stopped h) k = stopped h
 
 granted_place : {A : Type 0} (o : Option A) (e : Fault) (x : A) → (o otherwise e) ≡ Ok x → o ≡ Some x
-granted_place None e x h = let z : ◌≡◌ {A = ℕ} 0 1 = cc in absurd (omega arith)
+granted_place None e x h = absurd cc
 granted_place (Some y) e x h = let z : y ≡ x = cc in ap (λ v. Some v) z
 
 -- a call that is refused with 18 came to such an opening
@@ -115,7 +115,7 @@ all_told s g w (Slot i) = passed
 all_told s g w Save = passed
 
 told : {P : Fault → Type 0} (g : Graph) (r : Checked (Value × Graph)) (e : Fault) → Denies P r → (settled g r).0 ≡ Err e → P e
-told g (Ok x) e h q = let z : ◌≡◌ {A = ℕ} 0 1 = cc in absurd (omega arith)
+told g (Ok x) e h q = absurd cc
 told g (Err d) e h q = let z : d ≡ e = cc in denied (Err d) e h (ap (λ y. Err y) z)
 
 -- and one that comes to such an opening is refused

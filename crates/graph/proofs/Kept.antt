@@ -54,12 +54,12 @@ length_changed (suc i) xs ps = length-set ps i _
 
 -- a page that is readable is one of the pages
 in_range : (ps : List Page) (i : ℕ) (bs : List ℕ) → (get_or ps i no_page).content ≡ bytes bs → i < length ps
-in_range [] i bs h = let z : ◌≡◌ {A = ℕ} 0 1 = cc in absurd (omega arith)
+in_range [] i bs h = absurd cc
 in_range (p ∷ ps) zero bs h = omega arith
 in_range (p ∷ ps) (suc i) bs h = let z = in_range ps i bs h in omega arith
 
 is_page_lem : (ps : List Page) (n : ℕ) (bs : List ℕ) → (page_at ps n).content ≡ bytes bs → (0 < n) × (n ≤ length ps)
-is_page_lem ps zero bs h = let z : ◌≡◌ {A = ℕ} 0 1 = cc in absurd (omega arith)
+is_page_lem ps zero bs h = absurd cc
 is_page_lem ps (suc i) bs h = let z = in_range ps i bs h in (omega arith, omega arith)
 
 -- page n is written anew and kept
@@ -227,7 +227,7 @@ module _ (s : Setting) (g : Graph) (lim : Limits s g.pages) (stand : Standing s.
   all_leave (Add c t n) =
       with (λ x. Leaves s.types g x.1) (after (cursor c) (holds (declared s.types t) (fault NoType 2 nowhere) λ known. after (page s g n) (with _ (opens s g n) λ bs l. after (writing s g n (on_page n))
       (holds (leb (1 + (type_of s.types t).size) (63 - head_of bs)) (fault NoRoom 2 (on_page n)) λ free. given (added c t n bs l known free))))) λ x q. given q
-  all_leave (Leave c) = done_leaves (leave s g c) (after (cursor c) (given (moves c None _ (improves_same s.types g.pages) (λ a q. let z : ◌≡◌ {A = ℕ} 0 1 = cc in absurd (omega arith)))))
+  all_leave (Leave c) = done_leaves (leave s g c) (after (cursor c) (given (moves c None _ (improves_same s.types g.pages) (λ a q. absurd cc))))
   all_leave (Where c) = bound (tell_where s g c) λ x. given same
   all_leave (Glance c f) = bound (target s g c f) λ x. given same
   all_leave (Slot i) = given same

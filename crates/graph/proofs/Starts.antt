@@ -18,19 +18,19 @@ Passes r = r ≡ Ok tt
 
 pub both : (r q : Checked (Unit {0})) → Passes r → Passes q → Passes (r >> q)
 both (Ok x) q h k = k
-both (Err e) q h k = let z : ◌≡◌ {A = ℕ} 0 1 = cc in absurd (omega arith)
+both (Err e) q h k = absurd cc
 
 pub parts : (r q : Checked (Unit {0})) → Passes (r >> q) → Passes r × Passes q
 parts (Ok x) q h = (refl, h)
-parts (Err e) q h = let z : ◌≡◌ {A = ℕ} 0 1 = cc in absurd (omega arith)
+parts (Err e) q h = absurd cc
 
 pub test : (b : Bool) (e : Fault) → Passes (b else e) → b ≡ true
 test true e h = refl
-test false e h = let z : ◌≡◌ {A = ℕ} 0 1 = cc in absurd (omega arith)
+test false e h = absurd cc
 
 pub tested : (b : Bool) (e : Fault) → b ≡ true → Passes (b else e)
 tested true e h = refl
-tested false e h = let z : ◌≡◌ {A = ℕ} 0 1 = cc in absurd (omega arith)
+tested false e h = absurd cc
 
 glue : (a b c : Checked (Unit {0})) (z : ℕ) (f : ℕ → Checked (Unit {0})) → (a >> (b >> (c >> Ok z))) >>= f ≡ (a >> (b >> c)) >> f z
 glue (Ok x) (Ok y) (Ok w) z f = refl
@@ -83,14 +83,14 @@ module _ (ts : List Descriptor) (p n : ℕ) (bs : List ℕ) where
 
   -- an object starts past the fields before it
   pub start_past : (k c m s : ℕ) → among k (list_from c m s) ≡ true → c + s ≤ k
-  start_past k c zero s h = let z : ◌≡◌ {A = ℕ} 0 1 = cc in absurd (omega arith)
+  start_past k c zero s h = absurd cc
   start_past k c (suc m) zero h =
       ⊎_elim (λ e. let z = eqb-true k c e in omega arith) (λ e. let z = start_past k (c + 1) m (type_at ts bs c).size e in omega arith) (or_cases (eqb k c) _ h)
   start_past k c (suc m) (suc s) h = let z = start_past k (c + 1) m s h in omega arith
 
   -- and ends within the used cells
   pub start_within : (k c m s : ℕ) → among k (list_from c m s) ≡ true → Passes (objects_fault p n bs ts c m s) → k + (type_at ts bs k).size ≤ head_of bs
-  start_within k c zero s a h = let z : ◌≡◌ {A = ℕ} 0 1 = cc in absurd (omega arith)
+  start_within k c zero s a h = absurd cc
   start_within k c (suc m) zero a h =
       let hh = objects_parts c m h in
       ⊎_elim

@@ -73,4 +73,5 @@ pub enum Value {
     Unsettled,
 }
 
+// What a call answers.
 pub type Answer = Result<Value, Fault>;

@@ -23,20 +23,20 @@ few_links (Some d) bs good =
 
 -- what a part that comes does to the counts
 pub one_more : (ts : List Descriptor) (s : Survey) (xs : List Part) (o : Option Fault) (x : Part) → Some (Ok x) ≡ first_of xs o → (tally ts s xs ≡ tally ts (counted ts s x) (later_of xs)) × (length (later_of xs) + 1 ≡ length xs)
-one_more ts s [] None x e = let z : ◌≡◌ {A = ℕ} 0 1 = cc in absurd (omega arith)
-one_more ts s [] (Some f) x e = let z : ◌≡◌ {A = ℕ} 0 1 = cc in absurd (omega arith)
+one_more ts s [] None x e = absurd cc
+one_more ts s [] (Some f) x e = absurd cc
 one_more ts s (y ∷ ys) o x e = let z : x ≡ y = cc in (ap (λ w. tally ts (counted ts s w) ys) (sym z), omega arith)
 
 -- a fault, or the end
 pub at_fault : (ts : List Descriptor) (s : Survey) (xs : List Part) (o : Option Fault) (x : Fault) → Some (Err x) ≡ first_of xs o → unless o (tally ts s xs) ≡ Err x
-at_fault ts s [] None x e = let z : ◌≡◌ {A = ℕ} 0 1 = cc in absurd (omega arith)
+at_fault ts s [] None x e = absurd cc
 at_fault ts s [] (Some f) x e = let z : x ≡ f = cc in ap Err (sym z)
-at_fault ts s (y ∷ ys) o x e = let z : ◌≡◌ {A = ℕ} 0 1 = cc in absurd (omega arith)
+at_fault ts s (y ∷ ys) o x e = absurd cc
 
 pub at_end : (ts : List Descriptor) (s : Survey) (xs : List Part) (o : Option Fault) → None ≡ first_of xs o → unless o (tally ts s xs) ≡ Ok s
 at_end ts s [] None e = refl
-at_end ts s [] (Some f) e = let z : ◌≡◌ {A = ℕ} 0 1 = cc in absurd (omega arith)
-at_end ts s (y ∷ ys) o e = let z : ◌≡◌ {A = ℕ} 0 1 = cc in absurd (omega arith)
+at_end ts s [] (Some f) e = absurd cc
+at_end ts s (y ∷ ys) o e = absurd cc
 
 -- a survey is refused as the page's first fault says
 judge : (ts : List Descriptor) (bs : List ℕ) (l : Checked Remaining) (f : Checked (Unit {0})) → Faithful l f bs → verdict (l >>= (λ l. unless l.fault (tally ts empty l.parts))) ≡ f
@@ -50,11 +50,11 @@ verdict_is ts p n bs = judge ts bs (reader_of ts p n bs) (examined p n bs ts) (f
 -- the free cells are those of the last part
 last_free : (ts : List Descriptor) (bs : List ℕ) (k : ℕ) (s : Survey) (f : Checked (Unit {0})) → (last_part bs k f).fault ≡ None → (tally ts s (last_part bs k f).parts).free ≡ length (drop (8 * k) bs) / 8
 last_free ts bs k s (Ok x) e = refl
-last_free ts bs k s (Err x) e = let z : ◌≡◌ {A = ℕ} 0 1 = cc in absurd (omega arith)
+last_free ts bs k s (Err x) e = absurd cc
 
 object_free : (ts : List Descriptor) (bs : List ℕ) (k v : ℕ) (s : Survey) (r : Checked ℕ) (f : ℕ → Remaining) → ((t : Survey) (m : ℕ) → (f m).fault ≡ None → (tally ts t (f m).parts).free ≡ v) → (object_part bs k r f).fault ≡ None → (tally ts s (object_part bs k r f).parts).free ≡ v
 object_free ts bs k v s (Ok m) f h e = h _ m e
-object_free ts bs k v s (Err x) f h e = let z : ◌≡◌ {A = ℕ} 0 1 = cc in absurd (omega arith)
+object_free ts bs k v s (Err x) f h e = absurd cc
 
 module _ (ts : List Descriptor) (p n : ℕ) (bs : List ℕ) (u : ℕ) where
   from_free : (k m s : ℕ) (t : Survey) → (parts_from ts p n bs u k m s).fault ≡ None → (tally ts t (parts_from ts p n bs u k m s).parts).free ≡ length (drop (8 * (u + 1)) bs) / 8
@@ -83,7 +83,7 @@ free_is ts p n bs =
 
 few_by : (b : Bool) (x : Fault) (m l : Remaining) → length m.parts ≤ 64 → Ok l ≡ ((b else x) >> Ok m) → length l.parts ≤ 64
 few_by true x m l h e = let z : l ≡ m = cc in let P : Remaining → Type 0 = λ r. length r.parts ≤ 64 in subst P (sym z) h
-few_by false x m l h e = let z : ◌≡◌ {A = ℕ} 0 1 = cc in absurd (omega arith)
+few_by false x m l h e = absurd cc
 
 pub few_left : (ts : List Descriptor) (p n : ℕ) (bs : List ℕ) (l : Remaining) → Ok l ≡ reader_of ts p n bs → length l.parts ≤ 64
 few_left ts p n bs l e = few_by (eqb (length bs) 512) (fault WrongLength 3 nowhere) (parts_of ts p n bs) l (few_parts ts p n bs) e

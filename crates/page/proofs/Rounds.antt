@@ -1,32 +1,28 @@
 -- A cell that is written, and the cells beside it. Assumes nothing.
-use Rattle.std.proofs.Common.{◌≡◌, ℕ, ◌+◌, ◌-◌, ◌*◌, ◌/◌, ◌%◌, ◌^◌, ◌<◌, ◌≤◌, ◌⊎◌, List, ◌++◌, length, get_or, take, drop, refl, ap, ◌∙◌, inl, inr, ⊎_elim, arith, length-append, length-drop, length-take-le, get_or-drop, get_or-take}
+use Rattle.std.proofs.Common.{◌≡◌, ℕ, ◌+◌, ◌-◌, ◌*◌, ◌^◌, ◌<◌, ◌≤◌, ◌⊎◌, List, ◌++◌, length, get_or, take, drop, refl, sym, ap, ◌∙◌, inl, inr, ⊎_elim, arith, length-append, length-drop, length-take-le, get_or-drop, get_or-take}
 use Rattle.std.proofs.lemmas.List.{get_or_append_left, get_or-append_right}
+use Rattle.std.proofs.Math.Seq.{drop-append_seam}
 use Rattle.std.proofs.lemmas.Bool.{cases_lt, le-leb}
+use Rattle.std.specs.Int.{from_le_bytes, w64}
+use Rattle.page.proofs.Chunks.{chunk_cell}
 use Rattle.page.specs.Cells.{cell_at, bytes_of, put_at, put_cell}
 
 -- where the bytes have all of the cell
 pub put_in : (bs : List ℕ) (i x : ℕ) → 8 * i + 8 ≤ length bs → put_cell bs i x ≡ put_at bs i x
 put_in bs i x h = simp (le-leb (8 * i + 8) (length bs) h)
 
-at : (bs ys : List ℕ) (a k m : ℕ) → a ≤ length bs → m ≡ a + k → get_or (take a bs ++ ys) m 0 ≡ get_or ys k 0
-at bs ys a k m h e =
-    let e₁ : m - a ≡ k = omega arith in
-    get_or-append_right (take a bs) ys a m 0 (length-take-le a bs h) (omega arith) ∙ ap (λ j. get_or ys j 0) e₁
+chunk_put : (bs : List ℕ) (i x : ℕ) → 8 * i + 8 ≤ length bs → take 8 (drop (8 * i) (put_at bs i x)) ≡ bytes_of x
+unfolding put_at
+chunk_put bs i x h =
+    let front = take (8 * i) bs in
+    let e = length-take-le (8 * i) bs (omega arith) in
+    ap (take 8) (ap (λ n. drop n (put_at bs i x)) (sym e) ∙ drop-append_seam front (bytes_of x ++ drop (8 * i + 8) bs))
 
 -- a cell that is written is read back
 pub cell_put : (bs : List ℕ) (i x : ℕ) → 8 * i + 8 ≤ length bs → x < 2 ^ 64 → cell_at (put_at bs i x) i ≡ x
-unfolding cell_at put_at
 cell_put bs i x h lt =
-    let ys = bytes_of x ++ drop (8 * i + 8) bs in
-    let b0 : get_or (put_at bs i x) (8 * i) 0 ≡ x % 256 = at bs ys (8 * i) 0 (8 * i) (omega arith) (omega arith) in
-    let b1 : get_or (put_at bs i x) (8 * i + 1) 0 ≡ x / 256 % 256 = at bs ys (8 * i) 1 (8 * i + 1) (omega arith) refl in
-    let b2 : get_or (put_at bs i x) (8 * i + 2) 0 ≡ x / 65536 % 256 = at bs ys (8 * i) 2 (8 * i + 2) (omega arith) refl in
-    let b3 : get_or (put_at bs i x) (8 * i + 3) 0 ≡ x / 16777216 % 256 = at bs ys (8 * i) 3 (8 * i + 3) (omega arith) refl in
-    let b4 : get_or (put_at bs i x) (8 * i + 4) 0 ≡ x / 4294967296 % 256 = at bs ys (8 * i) 4 (8 * i + 4) (omega arith) refl in
-    let b5 : get_or (put_at bs i x) (8 * i + 5) 0 ≡ x / 1099511627776 % 256 = at bs ys (8 * i) 5 (8 * i + 5) (omega arith) refl in
-    let b6 : get_or (put_at bs i x) (8 * i + 6) 0 ≡ x / 281474976710656 % 256 = at bs ys (8 * i) 6 (8 * i + 6) (omega arith) refl in
-    let b7 : get_or (put_at bs i x) (8 * i + 7) 0 ≡ x / 72057594037927936 % 256 = at bs ys (8 * i) 7 (8 * i + 7) (omega arith) refl in
-    omega arith
+    let e : from_le_bytes w64 (bytes_of x) ≡ x = omega arith in
+    sym (chunk_cell (put_at bs i x) i) ∙ ap (from_le_bytes w64) (chunk_put bs i x h) ∙ e
 
 -- the bytes beside it stay
 pub byte_beside : (bs : List ℕ) (i x j : ℕ) → 8 * i + 8 ≤ length bs → (j < 8 * i) ⊎ (8 * i + 8 ≤ j) → get_or (put_at bs i x) j 0 ≡ get_or bs j 0

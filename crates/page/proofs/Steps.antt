@@ -34,7 +34,7 @@ unused_some n bs k (suc m) i a b ne zeros =
     (cases_lt k i)
 
 bad_by : (b : Bool) (l : Option Position) (c : Cause) → Err c ≡ cond b (Ok l) (Err BadLink) → (b ≡ false) × (c ≡ BadLink)
-bad_by true l c e = let z : ◌≡◌ {A = ℕ} 0 1 = cc in absurd (omega arith)
+bad_by true l c e = absurd cc
 bad_by false l c e = (refl, cc)
 
 -- what is refused is no link, and is refused as a bad one

@@ -18,7 +18,7 @@ Ends l f ys = (l.fault ≡ result_err f) × (f ≡ Ok tt → all_bytes l.parts �
 last_ends : (bs : List ℕ) (k i : ℕ) (f : Checked (Unit {0})) → k ≡ i → Ends (last_part bs k f) f (drop (8 * i) bs)
 unfolding Ends
 last_ends bs k i (Ok x) e = (refl, λ _. append-nil _ ∙ ap (λ j. drop (8 * j) bs) e)
-last_ends bs k i (Err x) e = (refl, λ h. let z : ◌≡◌ {A = ℕ} 0 1 = cc in absurd (omega arith))
+last_ends bs k i (Err x) e = (refl, λ h. absurd cc)
 
 object_ends : (bs : List ℕ) (k : ℕ) (r : Checked ℕ) (f : ℕ → Remaining) (g : ℕ → Checked (Unit {0})) (h : Checked (Unit {0})) → ((s : ℕ) → r ≡ Ok s → Ends (f s) (g s >> h) (drop (8 * (k + 1 + s)) bs)) → Ends (object_part bs k r f) ((r >>= g) >> h) (drop (8 * k) bs)
 unfolding Ends
@@ -30,14 +30,14 @@ object_ends bs k (Ok s) f g h ends =
           ap (λ l. cell_bytes bs k (1 + s) ++ l) (e.1 ok ∙ ap (λ m. drop m bs) (sym a) ∙ sym (drop-drop (8 * (1 + s)) (8 * k) bs))
           ∙ take-append-drop (8 * (1 + s)) (drop (8 * k) bs),
     )
-object_ends bs k (Err x) f g h ends = (refl, λ ok. let z : ◌≡◌ {A = ℕ} 0 1 = cc in absurd (omega arith))
+object_ends bs k (Err x) f g h ends = (refl, λ ok. absurd cc)
 
 -- an object with no fault lies within the used cells: over any tests
 fits_by : (a b : Bool) (x y : Fault) (r : Checked (Unit {0})) (z s u k : ℕ) → (b ≡ true → k + z ≤ u) → ((a else x) >> ((b else y) >> (r >> Ok z))) ≡ Ok s → k + s ≤ u
-fits_by false b x y r z s u k h e = let w : ◌≡◌ {A = ℕ} 0 1 = cc in absurd (omega arith)
-fits_by true false x y r z s u k h e = let w : ◌≡◌ {A = ℕ} 0 1 = cc in absurd (omega arith)
+fits_by false b x y r z s u k h e = absurd cc
+fits_by true false x y r z s u k h e = absurd cc
 fits_by true true x y (Ok t) z s u k h e = let w : z ≡ s = cc in omega (arith, h refl)
-fits_by true true x y (Err f) z s u k h e = let w : ◌≡◌ {A = ℕ} 0 1 = cc in absurd (omega arith)
+fits_by true true x y (Err f) z s u k h e = absurd cc
 
 module _ (ts : List Descriptor) (p n : ℕ) (bs : List ℕ) where
   pub fits : (k s : ℕ) → object_at p n bs ts k ≡ Ok s → k + s ≤ head_of bs
@@ -55,7 +55,7 @@ module _ (ts : List Descriptor) (p n : ℕ) (bs : List ℕ) where
   head_ends : (b : Bool) (x : Fault) (l : Remaining) (f : Checked (Unit {0})) (ys : List ℕ) → Ends l f ys → Ends (cond b l (only x)) ((b else x) >> f) ys
   unfolding Ends
   head_ends true x l f ys e = e
-  head_ends false x l f ys e = (refl, λ ok. let z : ◌≡◌ {A = ℕ} 0 1 = cc in absurd (omega arith))
+  head_ends false x l f ys e = (refl, λ ok. absurd cc)
 
   whole_ends : (b : Bool) (x : Fault) (l : Remaining) (f : Checked (Unit {0})) → Ends l f (drop 8 bs) → Faithful ((b else x) >> Ok l) ((b else x) >> f) bs
   unfolding Ends

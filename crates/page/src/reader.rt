@@ -8,7 +8,7 @@ use crate::form::Page;
 use fault::Fault;
 
 // An object from its header on, or last the cells that no object uses; each with its first cell.
-#[derive(Clone, Copy)]
+#[derive(Clone, Copy, Debug, PartialEq, Eq)]
 pub enum Part<'a> {
     Object { cell: u64, bytes: &'a [u8] },
     Unused { cell: u64, bytes: &'a [u8] },
