@@ -25,6 +25,7 @@ impl<S: Store> Store for Checks<S> {
         CHECKS
     }
 
+    #[tactic(auto, using(crate::specs::Laws::length_checked))]
     fn count(&mut self) -> u64 {
         checked_count(self.lower.count())
     }

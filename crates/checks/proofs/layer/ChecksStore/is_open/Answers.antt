@@ -6,31 +6,22 @@ use Rattle.checks.proofs.Pages.{layer_is}
 use Rattle.checks.proofs.Parts.{some_if, ready_is}
 use Rattle.checks.proofs.layer.ChecksStore.is_open.Goals as goal
 
-pub returns-then-not-in_layer : goal.returns-then-not-in_layer
-returns-then-not-in_layer g c =
+pub returns-then-not-in_layer-clause-value : goal.returns-then-not-in_layer-clause-value
+returns-then-not-in_layer-clause-value g c =
     let ps = g.S.Store.pages c.args.self.now.lower in
     let n : ℕ = c.args.n in
     let out : in_layer (length ps) n ≡ false = ap (λ q. in_layer q n) (sym c.count-below.ensures.value) ∙ sym c.in_layer.ensures ∙ c.if-not-in_layer.true in
-    record {
-      value = sym (open_outside (checked ps) n (layer_is ps n ∙ out));
-      same = ap checked c.count-below.ensures.same;
-      kept = c.count-below.ensures.kept;
-    }
+    sym (open_outside (checked ps) n (layer_is ps n ∙ out))
 
-pub returns : goal.returns
-returns g c =
+pub returns-clause-value : goal.returns-clause-value
+returns-clause-value g c =
     let ps = g.S.Store.pages c.args.self.now.lower in
     let n : ℕ = c.args.n in
     let inside : in_layer (length ps) n ≡ true = ap (λ q. in_layer q n) (sym c.count-below.ensures.value) ∙ sym c.in_layer.ensures ∙ c.if-not-in_layer.false in
     let at = c.check_page.ensures ∙ ap (λ q. check_page q n) c.count-below.ensures.value in
-    record {
-      value =
-          c.is_some.ensures
-          ∙ ap is_some c.ready.ensures.value
-          ∙ some_if (ready_answer g.S.Store.layer (g.S.Store.pages c.count-below.new.self) n c.check_page.result) _
-          ∙ ap (λ w. ready_answer g.S.Store.layer w n c.check_page.result) c.count-below.ensures.same
-          ∙ ap (ready_answer g.S.Store.layer ps n) at
-          ∙ ready_is g.S.Store.layer ps n inside;
-      same = ap checked (c.ready.ensures.still.same ∙ c.count-below.ensures.same);
-      kept = c.ready.ensures.still.kept ∙ c.count-below.ensures.kept;
-    }
+    c.is_some.ensures
+    ∙ ap is_some c.ready.ensures.value
+    ∙ some_if (ready_answer g.S.Store.layer (g.S.Store.pages c.count-below.new.self) n c.check_page.result) _
+    ∙ ap (λ w. ready_answer g.S.Store.layer w n c.check_page.result) c.count-below.ensures.same
+    ∙ ap (ready_answer g.S.Store.layer ps n) at
+    ∙ ready_is g.S.Store.layer ps n inside
