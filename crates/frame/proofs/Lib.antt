@@ -5,4 +5,3 @@ pub mod Sets
 pub mod Swizzles
 pub mod Valid
 pub mod Walks
-pub mod Bounds

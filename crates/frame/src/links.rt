@@ -12,6 +12,10 @@ use std::array;
 // An address is this, 64 times the slot counted from 1, and the cell.
 const BASE: u64 = 1048512;
 
+const LAST_PAGE: u64 = 1024;
+
+const LAST_SLOT: u64 = 256;
+
 // The same cell of another page or slot, which is 0 where there is none.
 fn same_cell(number: u64, other: Option<u16>) -> u64
     ensures { result ≡ 64 * unwrap_or other 0 + number % 64 }
@@ -26,8 +30,14 @@ fn to_address(table: &AddressTable, link: bool, number: u64) -> u64
     if !link || number == 0 {
         return number;
     }
-    let page = u16::try_from(number / 64).ok();
-    BASE + same_cell(number, page.and_then(|page| table.slot(page)))
+    // `u16::try_from` makes this twice as slow
+    let page = number / 64;
+    let slot = if page <= LAST_PAGE {
+        table.slot(page as u16)
+    } else {
+        None
+    };
+    BASE + same_cell(number, slot)
 }
 
 // The number of a cell, as a long pointer if the cell is a link.
@@ -37,8 +47,13 @@ pub fn to_pointer(table: &AddressTable, link: bool, number: u64) -> u64
     if !link || number == 0 {
         return number;
     }
-    let slot = u16::try_from(number.saturating_sub(BASE) / 64).ok();
-    same_cell(number, slot.and_then(|slot| table.page(slot)))
+    let slot = number.saturating_sub(BASE) / 64;
+    let page = if slot <= LAST_SLOT {
+        table.page(slot as u16)
+    } else {
+        None
+    };
+    same_cell(number, page)
 }
 
 // The page whose cells f gives, each of whether it is a link and its number.

@@ -11,13 +11,13 @@ use page::{ClosedCatalogue, Descriptor};
 // The last cell of a page.
 pub(crate) const LAST_CELL: u64 = 63;
 
+const NO_TYPE: Descriptor = Descriptor { size: 0, mask: 0 };
+
 // The type that a header names, of no fields where it names none.
 fn kind_of(catalogue: &ClosedCatalogue, header: u64) -> Descriptor
     ensures { result ≡ kind_of (types catalogue.now) header }
 {
-    catalogue
-        .descriptor(header)
-        .unwrap_or(Descriptor { size: 0, mask: 0 })
+    catalogue.descriptor(header).unwrap_or(NO_TYPE)
 }
 
 // The fields of an object that are still to come after a cell; where none were, the cell is a header.
@@ -59,8 +59,7 @@ fn fields_at(cells: &[u64; 64], catalogue: &ClosedCatalogue, cell: usize) -> Des
     requires { (0 < cell) × (cell ≤ 64) }
     ensures { result ≡ fold (fields_after (types catalogue.now)) no_type (take (cell - 1) (drop 1 cells.now)) }
 {
-    let none = Descriptor { size: 0, mask: 0 };
-    cells[1..cell].iter().fold(none, |fields, number| {
+    cells[1..cell].iter().fold(NO_TYPE, |fields, number| {
         fields_after(fields, *number, catalogue)
     })
 }
@@ -87,8 +86,7 @@ pub(crate) fn has_field(
     ensures value { result ≡ has_field (types catalogue.now) cells.now cell field }
     ensures within { result ≡ true → cell + 1 + field < 64 }
 {
-    if !starts_at(cells, catalogue, cell) {
-        return false;
-    }
-    field < kind_of(catalogue, cells[cell as usize]).size && field < LAST_CELL - cell
+    starts_at(cells, catalogue, cell)
+        && field < kind_of(catalogue, cells[cell as usize]).size
+        && field < LAST_CELL - cell
 }

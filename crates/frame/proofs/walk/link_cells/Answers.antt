@@ -1,13 +1,10 @@
-use Rattle.std.proofs.Common.{false, get_or, set, refl, sym, ap, ◌∙◌, length-set, arith}
+use Rattle.std.proofs.Common.{false, get_or, set, sym, ap, ◌∙◌, length-set, arith}
 use Rattle.std.proofs.lemmas.List.{ext_get_or}
 use Rattle.std.proofs.lemmas.List.Edits.{fill_by_more}
 use Rattle.page.specs.Types.{types}
 use Rattle.page.specs.Walks.{link_cells}
-use Rattle.frame.proofs.Walks.{links_begin, links_step, length_link_cells}
+use Rattle.frame.proofs.Walks.{links_step, length_link_cells}
 use Rattle.frame.proofs.walk.link_cells.Goals as goal
-
-pub loop-i-init : goal.loop-i-init
-loop-i-init c = (refl, (λ k h. absurd (omega arith)), links_begin (types c.args.catalogue.now) c.args.cells.now)
 
 pub loop-i-preserved : goal.loop-i-preserved
 loop-i-preserved c =
