@@ -50,9 +50,10 @@ impl<'a, 'k> Page<'a, 'k> {
         ensures value { result ≡ object_at self.now.pages self.now.number self.now.bytes.now (types self.now.catalogue.now) cell }
         ensures within { IfOk result (λ s. cell + s ≤ head_of self.now.bytes.now) }
     {
-        let Some(descriptor) = self.catalogue.descriptor(self.cell_at(cell)) else {
-            return Err(self.fault(Cause::UndeclaredType, cell));
-        };
+        let descriptor = self
+            .catalogue
+            .descriptor(self.cell_at(cell))
+            .ok_or(self.fault(Cause::UndeclaredType, cell))?;
         if cell + descriptor.size > self.cell_at(0) {
             return Err(self.fault(Cause::ObjectTooLong, cell));
         }

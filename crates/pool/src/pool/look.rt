@@ -48,7 +48,8 @@ impl<S: Store, V: Policy> Pool<S, V> {
         self.number(k, cell)
     }
 
-    // The number in cell i of the page in frame k, or 0.
+    // The number in cell i of the page in frame k, or 0: what is told of a frame below can't fail, and is pinned where
+    // there is such an object and field.
     fn number(&self, k: usize, i: u64) -> u64
         ensures { (f : Frame) → HasAt self.now.frames k f → result ≡ slice_index f.cells i }
     {
