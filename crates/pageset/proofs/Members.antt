@@ -1,5 +1,5 @@
 -- The pages of a set of words. Assumes nothing.
-use Rattle.std.proofs.Common.{◌≡◌, ℕ, zero, suc, ◌+◌, ◌-◌, ◌*◌, ◌/◌, ◌%◌, ◌^◌, ◌<◌, ◌≤◌, Bool, true, false, ◌≢◌, List, [], ◌∷◌, length, get_or, take, map, sum, set, add-one, replicate, sym, refl, ap, ◌∙◌, subst, ⊎_elim, arith, get_or-set_other, get_or-set_same}
+use Rattle.std.proofs.Common.{◌≡◌, ℕ, zero, suc, ◌+◌, ◌-◌, ◌*◌, ◌/◌, ◌%◌, ◌^◌, ◌<◌, ◌≤◌, Bool, true, false, ◌≢◌, List, [], ◌∷◌, length, get_or, take, map, sum, set, add-one, replicate, sym, refl, ap, ◌∙◌, subst, ⊎_elim, ◌⊎◌, inl, inr, arith, get_or-set_other, get_or-set_same}
 use lib.Count.{ones, count_trailing_zeros}
 use Rattle.std.proofs.lemmas.Nat.{shr_le}
 use Rattle.std.proofs.lemmas.List.{get_or_past, take_all}
@@ -58,24 +58,24 @@ module _
         (λ (h : 16 ≤ k). rw (get_or_past us k 0 (omega arith)) (omega arith))
         (cases_lt k 16)
 
--- page k + 1 put in or taken out, by the word v for its word
+-- page n put in or taken out, by the word v for its word i, where it is bit j
 module _
-    (ws : List ℕ) (k v : ℕ) (long : length ws ≡ 16) (small : k < 1024) (kept : (j : ℕ) → j < 64 → j ≢ k % 64 → bit v j ≡ bit (get_or ws (k / 64) 0) j)
+    (ws : List ℕ) (n i j v : ℕ) (long : length ws ≡ 16) (at : (0 < n) × (n ≤ 1024) × (i ≡ (n - 1) / 64) × (j ≡ (n - 1) % 64)) (kept : (b : ℕ) → b < 64 → b ≢ j → bit v b ≡ bit (get_or ws i 0) b)
   where
     abbrev pub changed : List ℕ
-    changed = set ws (k / 64) v
+    changed = set ws i v
 
-    pub changed_there : (n : ℕ) → n ≡ suc k → holds changed n ≡ bit v (k % 64)
-    changed_there n e = ap (holds changed) e ∙ holds_suc changed k ∙ ap (λ (w : ℕ). bit w (k % 64)) (get_or-set_same ws (k / 64) v 0 (omega arith))
+    pub changed_there : holds changed n ≡ bit v j
+    changed_there = holds_at changed n at.0 ∙ rw (sym at.2, sym at.3) (ap (λ (w : ℕ). bit w j) (get_or-set_same ws i v 0 (omega arith)))
 
-    pub changed_others : (n : ℕ) → (n ≡ suc k → ⊥) → holds changed n ≡ holds ws n
+    pub changed_others : (m : ℕ) → (m ≡ n → ⊥) → holds changed m ≡ holds ws m
     changed_others zero h = holds_zero changed ∙ sym (holds_zero ws)
     changed_others (suc m) h = ⊎_elim
-        (λ (e : m / 64 ≡ k / 64).
-        holds_suc changed m ∙ rw e (ap (λ (w : ℕ). bit w (m % 64)) (get_or-set_same ws (k / 64) v 0 (omega arith)) ∙ kept (m % 64) (omega arith) (λ f. h (omega arith)) ∙ sym (rw e at (holds_suc ws m))))
-        (λ (e : m / 64 ≢ k / 64).
-        holds_suc changed m ∙ ap (λ (w : ℕ). bit w (m % 64)) (get_or-set_other ws (k / 64) (m / 64) v 0 e) ∙ sym (holds_suc ws m))
-        (cases_eq (m / 64) (k / 64))
+        (λ (e : m / 64 ≡ i).
+        holds_suc changed m ∙ rw e (ap (λ (w : ℕ). bit w (m % 64)) (get_or-set_same ws i v 0 (omega arith)) ∙ kept (m % 64) (omega arith) (λ f. h (omega arith)) ∙ sym (rw e at (holds_suc ws m))))
+        (λ (e : m / 64 ≢ i).
+        holds_suc changed m ∙ ap (λ (w : ℕ). bit w (m % 64)) (get_or-set_other ws i (m / 64) v 0 e) ∙ sym (holds_suc ws m))
+        (cases_eq (m / 64) i)
 
 -- words that are set stay words
 pub words_set : (ws : List ℕ) (i v : ℕ) → Words ws → v < 2 ^ 64 → Words (set ws i v)
@@ -171,3 +171,8 @@ module _
 -- the pages of words that are zero
 pub empty_words : (ws : List ℕ) (a b : ℕ) → ((k : ℕ) → a ≤ k → k < b → get_or ws k 0 ≡ 0) → (n : ℕ) → 64 * a < n → n ≤ 64 * b → holds ws n ≡ false
 empty_words ws a b z n p q = holds_at ws n (omega arith) ∙ rw (z ((n - 1) / 64) (omega arith) (omega arith)) (bit_none ((n - 1) % 64))
+
+-- no page where a set can have none
+pub holds_nowhere : (ws : List ℕ) (n : ℕ) → length ws ≡ 16 → (n ≡ 0) ⊎ (1024 < n) → holds ws n ≡ false
+holds_nowhere ws n l (inl e) = rw e (holds_zero ws)
+holds_nowhere ws n l (inr h) = holds_past ws n l h

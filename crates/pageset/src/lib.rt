@@ -1,7 +1,7 @@
 // Sets of the pages 1 to 1024.
 #![tactic(auto)]
 
-ghost use Rattle.std.specs.Prelude.{◌≡◌, ℕ, ◌+◌, ◌-◌, ◌<◌, ◌≤◌, true, false, not, ◌&&◌, ◌||◌, length, count_ones, position, MatchOption, ◌≢◌};
+ghost use Rattle.std.specs.Prelude.{◌≡◌, ℕ, ◌+◌, ◌-◌, ◌/◌, ◌%◌, ◌<◌, ◌≤◌, ◌⊎◌, true, false, not, ◌&&◌, ◌||◌, length, count_ones, position, MatchOption, ◌≢◌};
 ghost use Rattle.pageset.specs.Sets.{holds, tally, Words, used, NoneAfter, FirstAfter};
 
 use std::array;
@@ -12,6 +12,14 @@ pub struct PageSet {
     words: [u64; 16],
     ghost sized: { length words ≡ 16 },
     ghost bits: { Words words },
+}
+
+// The word of a page and its bit there, if a set can have the page.
+fn place(page: u16) -> Option<(usize, u16)>
+    ensures { MatchOption result ((page ≡ 0) ⊎ (1024 < page)) (λ p. (0 < page) × (page ≤ 1024) × (p.0 ≡ (page - 1) / 64) × (p.1 ≡ (page - 1) % 64)) }
+{
+    let k = page.checked_sub(1).filter(|k| *k < 1024)?;
+    Some((k as usize / 64, k % 64))
 }
 
 // How many bits of a word are set.
@@ -41,11 +49,10 @@ impl PageSet {
     pub fn has(&self, page: u16) -> bool
         ensures { result ≡ holds self.now.words page }
     {
-        if page == 0 || page > 1024 {
+        let Some((word, bit)) = place(page) else {
             return false;
-        }
-        let k = page - 1;
-        (self.words[k as usize / 64] >> (k % 64)) % 2 == 1
+        };
+        (self.words[word] >> bit) % 2 == 1
     }
 
     // Puts a page into the set. Passes over 0 and numbers above 1024.
@@ -53,11 +60,9 @@ impl PageSet {
         ensures added { 0 < page → page ≤ 1024 → holds self.new.words page ≡ true }
         ensures others { (n : ℕ) → (n ≢ page) → holds self.new.words n ≡ holds self.old.words n }
     {
-        if page == 0 || page > 1024 {
-            return;
+        if let Some((word, bit)) = place(page) {
+            self.words[word] |= 1 << bit;
         }
-        let k = page - 1;
-        self.words[k as usize / 64] |= 1 << (k % 64);
     }
 
     // Takes a page out of the set. Passes over 0 and numbers above 1024.
@@ -65,11 +70,9 @@ impl PageSet {
         ensures gone { holds self.new.words page ≡ false }
         ensures others { (n : ℕ) → (n ≢ page) → holds self.new.words n ≡ holds self.old.words n }
     {
-        if page == 0 || page > 1024 {
-            return;
+        if let Some((word, bit)) = place(page) {
+            self.words[word] &= !(1 << bit);
         }
-        let k = page - 1;
-        self.words[k as usize / 64] &= !(1 << (k % 64));
     }
 
     // The pages of either set.

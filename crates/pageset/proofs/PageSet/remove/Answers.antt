@@ -1,24 +1,25 @@
-use Rattle.std.proofs.Common.{◌≡◌, ◌-◌, ◌/◌, ◌%◌, ◌<◌, get_or, ⊎_elim, ◌∙◌, arith}
+use Rattle.std.proofs.Common.{get_or, ◌∙◌, arith}
 use Rattle.pageset.proofs.Digits.{without_bit, without_same, without_other}
-use Rattle.pageset.proofs.Members.{changed_there, changed_others, holds_zero, holds_past}
+use Rattle.pageset.proofs.Members.{changed_there, changed_others, holds_nowhere}
 use Rattle.pageset.proofs.PageSet.remove.Goals as goal
 
-pub returns : goal.returns
-returns c =
+pub returns-in-Some-clause-gone : goal.returns-in-Some-clause-gone
+returns-in-Some-clause-gone c =
     let t = c.args.self.now in
-    let k = c.args.page - 1 in
-    let j = k % 64 in
-    let w = get_or t.words (k / 64) 0 in
-    let some : 0 < c.args.page = omega (arith, c.if-page-eq0.false) in
-    record {
-      gone = changed_there t.words k (without_bit w j) t.sized (omega arith) (λ i l d. without_other w j i (omega arith) l d) c.args.page (omega arith) ∙ without_same w j (omega arith);
-      others = λ n h. changed_others t.words k (without_bit w j) t.sized (omega arith) (λ i l d. without_other w j i (omega arith) l d) n (λ e. h (omega arith));
-    }
+    let i = c.in-Some.word in
+    let j = c.in-Some.bit in
+    let w = get_or t.words i 0 in
+    let at = c.in-Some.ensures in
+    changed_there t.words c.args.page i j (without_bit w j) t.sized at (λ b l d. without_other w j b (omega arith) l d) ∙ without_same w j (omega arith)
 
-pub returns-then-page-eq0-clause-gone : goal.returns-then-page-eq0-clause-gone
-returns-then-page-eq0-clause-gone c =
+pub returns-in-Some-clause-others : goal.returns-in-Some-clause-others
+returns-in-Some-clause-others c =
     let t = c.args.self.now in
-    ⊎_elim
-    (λ (e : c.args.page ≡ 0). rw e (holds_zero t.words))
-    (λ (h : (c.args.page ≡ 0 → ⊥) × (1024 < c.args.page)). holds_past t.words c.args.page t.sized h.1)
-    c.then-page-eq0.either
+    let i = c.in-Some.word in
+    let j = c.in-Some.bit in
+    let w = get_or t.words i 0 in
+    let at = c.in-Some.ensures in
+    changed_others t.words c.args.page i j (without_bit w j) t.sized at (λ b l d. without_other w j b (omega arith) l d)
+
+pub returns-in_default-clause-gone : goal.returns-in_default-clause-gone
+returns-in_default-clause-gone c = holds_nowhere c.args.self.now.words c.args.page c.args.self.now.sized c.in_default.ensures
