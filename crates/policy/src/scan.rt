@@ -2,7 +2,7 @@
 ghost use Rattle.std.specs.Prelude.{◌≡◌, ℕ, ◌-◌, ◌<◌, ◌≤◌, true, false, None, List, ◌++◌, IfSome, slice_index_or, slice_set};
 ghost use Rattle.std.specs.Option.{unwrap_or};
 ghost use Rattle.policy.specs.Answers.{Answer};
-ghost use Rattle.policy.specs.Turns.{span, goes_on, walk, came, round_taken, chance_taken, chance_left};
+ghost use Rattle.policy.specs.Turns.{span, walk, came, round_taken, chance_taken, chance_left};
 
 use crate::MOST_FRAMES;
 
@@ -77,14 +77,4 @@ pub(crate) fn second_turn(
         return Some(sooner);
     }
     turn(occupied, frames, next)
-}
-
-// Where to go on from after an answer: the frame after the one taken, going round, or where it was if none was taken.
-pub(crate) fn onward(frames: usize, next: usize, taken: Option<usize>) -> usize
-    requires next { next ≤ frames }
-    requires taken { IfSome taken (λ k. k < frames) }
-    ensures exact { result ≡ goes_on frames next (unwrap_or taken frames) }
-    ensures within { result ≤ frames }
-{
-    taken.map_or(next, |k| if k + 1 < frames { k + 1 } else { 0 })
 }

@@ -7,7 +7,7 @@ ghost use Rattle.policy.specs.Runs.{Fair};
 
 use crate::Policy;
 use crate::round::RoundRobin;
-use crate::scan::{onward, turn};
+use crate::scan::turn;
 
 impl RoundRobin {
     // Within how many answers it takes a frame that stays occupied.
@@ -52,7 +52,6 @@ impl Policy for RoundRobin {
         ensures picked { RoundPicks self.old occupied.now result self.new }
     {
         let taken = turn(occupied, self.frames, self.next);
-        self.next = onward(self.frames, self.next, taken);
-        taken.unwrap_or(self.frames)
+        self.answered(taken)
     }
 }
