@@ -6,7 +6,7 @@ pub mod picks;
 use crate::{MOST_FRAMES, RoundRobin};
 
 // Goes round as RoundRobin does, and passes a touched frame once. A frame past the most is never touched.
-#[derive(Clone, Copy)]
+#[derive(Clone, Copy, Debug, PartialEq, Eq)]
 pub struct SecondChance {
     round: RoundRobin,
     touched: [bool; MOST_FRAMES],

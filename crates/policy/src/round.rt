@@ -6,7 +6,7 @@ ghost use Rattle.policy.specs.Turns.{goes_on};
 pub mod picks;
 
 // Takes the first occupied frame after its last victim, going round.
-#[derive(Clone, Copy)]
+#[derive(Clone, Copy, Debug, PartialEq, Eq)]
 pub struct RoundRobin {
     pub(crate) frames: usize,
     // The frame after its last victim.
