@@ -1,12 +1,6 @@
 -- Slots taken, one after another, from the pages of a set that are not wanted. Assumes nothing.
 use Rattle.std.proofs.Common.{◌≡◌, ℕ, ◌<◌, ◌≤◌, Bool, true, false, not, ◌&&◌, List, get_or, sym, refl}
 
-pub minus_false : (x y : Bool) → (x && not y) ≡ false → x ≡ true → y ≡ true
-minus_false true true h e = refl
-minus_false true false h e = sym h
-minus_false false true h e = refl
-minus_false false false h e = e
-
 pub minus_true : (x y : Bool) → (x && not y) ≡ true → (x ≡ true) × (y ≡ false)
 minus_true true true h = (refl, sym h)
 minus_true true false h = (refl, refl)

@@ -72,11 +72,6 @@ pub links_step : (ts : List Descriptor) (bs : List Bool) (xs : List ℕ) (i : �
     → (get_or bs i false ≡ (nat_lt 0 d.size && odd d.mask)) × (drop (i + 1) bs ≡ links_from ts (fields_after ts d (get_or xs i 0)).size (fields_after ts d (get_or xs i 0)).mask (drop (i + 1) xs))
 links_step ts bs xs i d h e = cut bs i _ false _ (e ∙ ap (λ l. links_from ts d.size d.mask l) (drop_more xs i 0 h) ∙ links_cons ts d.size d.mask (get_or xs i 0) (drop (i + 1) xs))
 
--- the head counts as a field that is no link
-pub links_begin : (ts : List Descriptor) (xs : List ℕ) → link_cells ts xs ≡ links_from ts 1 0 xs
-links_begin ts [] = refl
-links_begin ts (x ∷ xs) = refl
-
 -- whether an object starts at cell i, by the fields still to come there
 starts_fold : (ts : List Descriptor) (d : Descriptor) (xs : List ℕ) (i : ℕ) → i < length xs → get_or (starts_from ts d.size xs) i false ≡ (eqb (fold (fields_after ts) d (take i xs)).size 0 && declared ts (get_or xs i 0))
 starts_fold ts d [] i h = absurd (omega arith)
