@@ -62,6 +62,7 @@ impl fmt::Display for Misuse<'_> {
 }
 
 impl StoreKind {
+    // An Option, no TryFrom: what is wrong is said with the option's name, which is not known here.
     fn named(value: &str) -> Option<StoreKind> {
         Some(match value {
             "image" => StoreKind::Image,

@@ -51,7 +51,8 @@ layer, and prints how many cells it changed. The file is replaced whole.
 The exit status is 0 when the work was done, whatever an inspection found, and
 1 when a file can't be read or written or the command line is wrong.";
 
-// How the program ends where the streams hold: with status 0, or with 1 after it said why.
+// How the program ends where the streams hold: with status 0, or with 1 after it said why. No Result: its error would be
+// empty, beside the error of a stream.
 #[derive(Debug, Clone, Copy, PartialEq, Eq)]
 pub enum Ending {
     Done,

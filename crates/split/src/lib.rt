@@ -41,7 +41,7 @@ impl<A: Store, B: Store> Split<A, B> {
         &self.first
     }
 
-    // The second part, for one who writes it back.
+    // The second part, for one who writes it back. The two are of two types, so each has its own call.
     pub fn second(&self) -> &B
         ensures { result.now ≡ self.now.second }
     {

@@ -20,7 +20,8 @@ pub const PAGE_BYTES: usize = 512;
 // How many pages a store has at most.
 pub const MOST_PAGES: u64 = 1024;
 
-// Pages are numbered from 1. A call that is refused changes nothing.
+// Pages are numbered from 1. A call that is refused changes nothing. What a call keeps stands in its own clauses, for one
+// who writes a further store to read there.
 pub trait Store {
     // The layer that faults of this kind of store name.
     const LAYER: u32;

@@ -73,7 +73,8 @@ impl<'a, 'k> Page<'a, 'k> {
     }
 }
 
-// The first fault of page `page` of a store of `pages` pages.
+// The first fault of page `page` of a store of `pages` pages. The four are given apart, as those who call hold them: they
+// have just read the bytes.
 pub fn first_fault(
     bytes: &[u8],
     page: u64,
