@@ -1,6 +1,5 @@
 -- What the frames need, and what giving one up leaves. Assumes nothing.
-use Rattle.std.proofs.Common.{◌≡◌, ℕ, zero, suc, ◌+◌, ◌<◌, ◌≤◌, Bool, true, false, cond, ◌||◌, ◌⊎◌, List, [], ◌∷◌, ◌++◌, map, length, get_or, take, set, replicate, is_some, Some, None, count_by, Option, sym, refl, ap, ◌∙◌, subst, inl, inr, ⊎_elim, arith, get_or-set_other}
-use Rattle.std.proofs.lemmas.List.Sums.{sum_by-set}
+use Rattle.std.proofs.Common.{◌≡◌, ℕ, zero, suc, ◌+◌, ◌<◌, ◌≤◌, Bool, true, false, cond, ◌||◌, ◌⊎◌, List, [], ◌∷◌, ◌++◌, map, length, get_or, take, set, replicate, is_some, Some, None, Option, sym, refl, ap, ◌∙◌, subst, inl, inr, ⊎_elim, arith, get_or-set_other}
 use Rattle.std.proofs.lemmas.List.{take_more, length-map, get_or-map, get_or_past}
 use Rattle.std.proofs.lemmas.Bool.{cases_lt, both_ways, or_cases, or_left, or_right, or_from}
 use Rattle.pageset.specs.Sets.{holds, tally}
@@ -74,13 +73,6 @@ empty_set (f ∷ fs) zero (suc k) e = e
 empty_set (f ∷ fs) (suc v) zero e = e
 empty_set (f ∷ fs) (suc v) (suc k) e = empty_set fs v k e
 
--- fewer frames are occupied
-pub fewer_held : (fs : List (Option Frame)) (v : ℕ) → v < length fs → is_some (get_or fs v None) ≡ true → count_by is_some (set fs v None) < count_by is_some fs
-fewer_held fs v l e =
-    let s = sum_by-set {X = Option Frame} (λ x. cond (is_some x) 1 0) fs v None None l in
-    let t = rw e at s in
-    omega (arith, t)
-
 -- one turn of gathering what the frames need
 pub need_turn : (fs : List (Option Frame)) (k n : ℕ) (x y b : Bool) → k < length fs → x ≡ (b || needed (take k fs) n) → y ≡ (x || asks (get_or fs k None) n) → y ≡ (b || needed (take (k + 1) fs) n)
 need_turn fs k n x y b h e d =
@@ -88,9 +80,6 @@ need_turn fs k n x y b h e d =
 
 pub some_asks : (x : Option Frame) (h : Frame) (n : ℕ) → x ≡ Some h → asks x n ≡ holds h.needs.words n
 some_asks x h n e = ap (λ (z : Option Frame). asks z n) e
-
-pub some_held : (x : Option Frame) (h : Frame) → x ≡ Some h → is_some x ≡ true
-some_held x h e = ap (λ (z : Option Frame). is_some z) e
 
 pub not_held : (x : Option Frame) → ((h : Frame) → x ≡ Some h → ⊥) → is_some x ≡ false
 not_held None q = refl

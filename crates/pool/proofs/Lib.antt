@@ -7,6 +7,4 @@ pub mod Starts
 pub mod Looks
 pub mod Saves
 pub mod Courses
-pub mod Made
 pub mod Entering
-pub mod Kept

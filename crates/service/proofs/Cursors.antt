@@ -34,21 +34,11 @@ put_page v w n m h added others =
     (λ (p : m ≡ n → ⊥). others m p ∙ or_none (holds v m) _ (elsewhere m n (inl p)))
     (cases_eq m n)
 
-pub too_high : (v : List ℕ) (n m : ℕ) → 1024 < n → holds v m ≡ (holds v m || (eqb m n && is_page m))
-too_high v n m l = or_none (holds v m) _ (elsewhere m n (inr (inr l)))
-
 on_is : (o p : Option Position) (m : ℕ) → o ≡ p → on o m ≡ on p m
 on_is o p m e = ap (λ x. on x m) e
 
 pub on_some : (o : Option Position) (at : Position) (m : ℕ) (b : Bool) → o ≡ Some at → (b || (eqb m at.page && is_page m)) ≡ (b || (on o m && is_page m))
 on_some o at m b e = ap (λ t. b || (t && is_page m)) (sym (on_is o (Some at) m e))
-
-no_page : (o : Option Position) (m : ℕ) → ((at : Position) → o ≡ Some at → ⊥) → on o m ≡ false
-no_page None m h = refl
-no_page (Some at) m h = absurd (h at refl)
-
-pub on_none : (o : Option Position) (m : ℕ) (b : Bool) → ((at : Position) → o ≡ Some at → ⊥) → b ≡ (b || (on o m && is_page m))
-on_none o m b h = or_none b (on o m && is_page m) (ap (λ t. t && is_page m) (no_page o m h))
 
 or_assoc : (a b c : Bool) → (a || (b || c)) ≡ ((a || b) || c)
 or_assoc true b c = refl

@@ -1,6 +1,6 @@
 -- What is so of a service. Assumes nothing.
-use Rattle.std.proofs.Common.{◌≡◌, ℕ, zero, suc, ◌<◌, ◌≤◌, true, false, eqb, ◌⊎◌, List, [], ◌∷◌, length, get_or, set, replicate, Some, None, Option, sym, refl, ap, ◌∙◌, subst, inl, inr, ⊎_elim, arith, length-take}
-use Rattle.std.proofs.lemmas.Bool.{both_ways, eq-eqb, or_left, or_right, or_cases, eqb-true}
+use Rattle.std.proofs.Common.{◌≡◌, ℕ, zero, suc, ◌<◌, ◌≤◌, true, eqb, ◌⊎◌, List, [], ◌∷◌, length, get_or, set, Some, None, Option, sym, refl, ap, ◌∙◌, subst, inl, inr, ⊎_elim, arith, length-take}
+use Rattle.std.proofs.lemmas.Bool.{eq-eqb, or_left, or_right, or_cases, eqb-true}
 use Rattle.page.specs.Types.{types}
 use Rattle.page.specs.Walks.{links_to}
 use Rattle.page.specs.declared.catalogue.ClosedCatalogue.{ClosedCatalogue}
@@ -18,7 +18,6 @@ use Rattle.graph.specs.Standing.{Limits, OnObjects}
 use Rattle.graph.specs.Steps.{starts_at}
 use Rattle.store.specs.Rules.{held_by}
 use Rattle.service.specs.Graphing.{bytes_at, Standing}
-use Rattle.pool.specs.Needs.{Covers}
 use Rattle.pool.specs.Pools.{stood_for}
 use Rattle.pool.specs.declared.pool.Pool.{Pool}
 use Rattle.pool.proofs.Opens.{cells_long, length_long, needed_at}
@@ -63,15 +62,6 @@ on_put (Some x ∷ cs) (suc c) m at h =
     (λ (e : on_cursor (set cs c (Some at)) m ≡ true). ⊎_elim (λ (d : m ≡ at.page). inl d) (λ (d : on_cursor cs m ≡ true). inr (or_right (eqb m x.page) _ d)) (on_put cs c m at e))
     (or_cases (eqb m x.page) (on_cursor (set cs c (Some at)) m) h)
 
-none_on : (k m : ℕ) → on_cursor (replicate k None) m ≡ false
-none_on zero m = refl
-none_on (suc k) m = none_on k m
-
-none_at : (k c : ℕ) (at : Position) → get_or (replicate k None) c None ≡ Some at → ⊥
-none_at zero c at e = none_some {X = Position} None at refl e
-none_at (suc k) zero at e = none_some {X = Position} None at refl e
-none_at (suc k) (suc c) at e = none_at k c at e
-
 pub few_types : (k : ClosedCatalogue) → length (types k) ≤ 32
 few_types k = omega (arith, length-take k.table.count k.table.descriptors, k.table.long)
 
@@ -84,13 +74,6 @@ standing ts g h c at e =
     let o = h c at e in
     let b : bytes_at g.pages at.page ≡ o.held = ap (λ (x : Content). held_by x []) o.lawful.reads in
     record { lawful = subst (λ (bs : List ℕ). LawfulPage ts g.pages at.page bs) (sym b) o.lawful; begins = ap (λ (bs : List ℕ). starts_at ts bs at.cell) b ∙ o.begins }
-
--- where all cursors are empty none stands anywhere
-pub none_stand : (ts : List Descriptor) (g : Graph) → g.cursors ≡ replicate 16 None → Standing ts g
-none_stand ts g e c at h = absurd (none_at 16 c at (ap (λ (cs : List (Option Position)). get_or cs c None) (sym e) ∙ h))
-
-pub none_covered : (slot : List ℕ) → Covers slot (on_cursor (replicate 16 None))
-none_covered slot n _ _ h = absurd (both_ways (on_cursor (replicate 16 None) n) (none_on 16 n) h)
 
 module _ {S V : Type 0} {stores : StoreGhosts S} {policies : PolicyGhosts V} (few : (x : S) → length (stores.pages x) ≤ 1024) where
   module _ (q : Pool S V stores policies) where

@@ -94,13 +94,6 @@ side_found ps qs n s h =
     (λ (t : is_page (joined ps qs) n ≡ false). let e = ap (λ b. cond b (Some (side_at (length ps) n)) None) t in absurd (let z : ◌≡◌ {A = ℕ} 0 1 = cc in omega arith))
     (cases_Bool (is_page (joined ps qs) n))
 
-side_missing : (ps qs : List Page) (n : ℕ) → side_of ps qs n ≡ None → is_page (joined ps qs) n ≡ false
-side_missing ps qs n h =
-    ⊎_elim
-    (λ (t : is_page (joined ps qs) n ≡ true). let e = ap (λ b. cond b (Some (side_at (length ps) n)) None) t in absurd (let z : ◌≡◌ {A = ℕ} 0 1 = cc in omega arith))
-    (λ (t : is_page (joined ps qs) n ≡ false). t)
-    (cases_Bool (is_page (joined ps qs) n))
-
 found_parts : {X : Type 0} (a : Bool) (o : Option X) (f g : Fault) (x : X) → ◌>>◌ (a else f) (o otherwise g) ≡ Ok x → (a ≡ true) × (o ≡ Some x)
 found_parts true (Some y) f g x h = (refl, (cc))
 found_parts true None f g x h = absurd (let z : ◌≡◌ {A = ℕ} 0 1 = cc in omega arith)
