@@ -155,3 +155,12 @@ fetched_page layer ts ps n known buffer e =
     absurd (no_fetch (eqb (length buffer) 512) (fault WrongLength layer nowhere) (fault NoPage layer (on_page n)) (readable (page_at ps n).content n) (examined known n (read_buffer ps n buffer) ts)
     (ap (λ p. (((eqb (length buffer) 512) else fault WrongLength layer nowhere) >> ((p else fault NoPage layer (on_page n)) >> readable (page_at ps n).content n)) >> examined known n (read_buffer ps n buffer) ts) (sym a) ∙ e)))
     (cases_Bool (is_page ps n))
+
+-- what comes after a granted step, and a step that is refused
+pub then_bytes : (r : Checked (Unit {0})) (xs ys : List ℕ) → (r >> Ok xs) ≡ Ok ys → (r ≡ Ok tt) × (xs ≡ ys)
+then_bytes (Ok tt) xs ys e = (refl, cc)
+then_bytes (Err f) xs ys e = absurd cc
+
+pub then_refused : (r : Checked (Unit {0})) (xs : List ℕ) (e : Fault) → (r >> Ok xs) ≡ Err e → r ≡ Err e
+then_refused (Ok tt) xs e h = absurd cc
+then_refused (Err f) xs e h = let z : f ≡ e = cc in ap Err z

@@ -1,5 +1,5 @@
 // What stands in a frame, told of the page of long pointers that it holds.
-ghost use Rattle.std.specs.Prelude.{◌≡◌, ◌+◌, ◌<◌, true, None, slice_index, slice_index_or};
+ghost use Rattle.std.specs.Prelude.{◌≡◌, ◌+◌, ◌<◌, true, Some, None, slice_index, slice_index_or};
 ghost use Rattle.page.specs.Cells.{cell_at};
 ghost use Rattle.page.specs.Descriptors.{declared};
 ghost use Rattle.page.specs.Form.{field_at};
@@ -41,36 +41,33 @@ impl<S: Store, V: Policy> Pool<S, V> {
             .unwrap_or(Descriptor { size: 0, mask: 0 })
     }
 
-    // The header of the object that starts at the cell of the page in frame k, or 0.
+    // The header of the object that starts at the cell of the page in frame k, or 0, which no type has.
     fn header(&self, k: usize, cell: u64) -> u64
         ensures { (f : Frame) → StartsIn self.now k f cell → (result ≡ cell_at (long_of self.now f) cell) × (declared (types self.now.catalogue) result ≡ true) }
     {
-        self.number(k, cell)
+        self.number(k, cell).unwrap_or(0)
     }
 
-    // The number in cell i of the page in frame k, or 0: what is told of a frame below can't fail, and is pinned where
-    // there is such an object and field.
-    fn number(&self, k: usize, i: u64) -> u64
-        ensures { (f : Frame) → HasAt self.now.frames k f → result ≡ slice_index f.cells i }
+    // The number in cell i of the page in frame k.
+    fn number(&self, k: usize, i: u64) -> Option<u64>
+        ensures { (f : Frame) → HasAt self.now.frames k f → i < 64 → result ≡ Some (slice_index f.cells i) }
     {
-        self.held(k)
-            .and_then(|frame| frame.cells.get(i as usize).copied())
-            .unwrap_or(0)
+        self.held(k)?.cells.get(i as usize).copied()
     }
 
-    // The number in the cell of a field of the object at the cell of the page in frame k, or 0.
-    fn in_field(&self, k: usize, cell: u64, field: u64) -> u64
-        ensures { (f : Frame) → HasAt self.now.frames k f → cell + 1 + field < 64 → result ≡ slice_index f.cells (cell + 1 + field) }
+    // The number in the cell of a field of the object at the cell of the page in frame k.
+    fn in_field(&self, k: usize, cell: u64, field: u64) -> Option<u64>
+        ensures { (f : Frame) → HasAt self.now.frames k f → cell + 1 + field < 64 → result ≡ Some (slice_index f.cells (cell + 1 + field)) }
     {
-        self.number(k, cell.saturating_add(1).saturating_add(field))
+        self.number(k, cell.checked_add(1)?.checked_add(field)?)
     }
 
     // What stands in a field of the object that starts at the cell of the page in frame k: a number, or the address of
-    // its link.
+    // its link. This call and the next can't be refused: they answer 0 where there is no such field.
     pub fn field(&self, k: usize, cell: u64, field: u64) -> u64
         ensures { (f : Frame) → StartsIn self.now k f cell → field < (kind_in self.now f cell).size → result ≡ field_shown (types self.now.catalogue) self.now.table.slot_of (long_of self.now f) cell field }
     {
-        self.in_field(k, cell, field)
+        self.in_field(k, cell, field).unwrap_or(0)
     }
 
     // What a field of the object that starts at the cell of the page in frame k holds in the store: a number, or a long
@@ -79,6 +76,7 @@ impl<S: Store, V: Policy> Pool<S, V> {
         ensures { (f : Frame) → StartsIn self.now k f cell → field < (kind_in self.now f cell).size → result ≡ field_at (long_of self.now f) cell field }
     {
         let link = self.kind(k, cell).is_link(field);
-        to_pointer(&self.table, link, self.in_field(k, cell, field))
+        let number = self.in_field(k, cell, field).unwrap_or(0);
+        to_pointer(&self.table, link, number)
     }
 }

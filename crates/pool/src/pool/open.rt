@@ -2,10 +2,9 @@
 ghost use Rattle.std.specs.Prelude.{◌≡◌, ◌==◌, ◌<◌, true, Some, position};
 ghost use Rattle.page.specs.Types.{types};
 ghost use Rattle.store.specs.Pages.{is_page};
-ghost use Rattle.store.specs.Rules.{read_buffer};
 ghost use Rattle.pageset.specs.Sets.{holds};
 ghost use Rattle.pool.specs.Courses.{Opens};
-ghost use Rattle.pool.specs.Fetching.{fetch_answer};
+ghost use Rattle.pool.specs.Fetching.{fetched_bytes};
 ghost use Rattle.pool.specs.Looking.{is_in};
 ghost use Rattle.pool.specs.Needs.{Covers};
 ghost use Rattle.pool.specs.Opening.{Incoming};
@@ -22,20 +21,20 @@ use store::{PAGE_BYTES, Store};
 // The layer of the addresses.
 const LAYER: u32 = 4;
 
-// Reads page n of a store and examines it.
+// The bytes of page n of a store, read and examined.
 fn fetch<S: Store>(
     store: &mut S,
     n: u64,
     pages: u64,
     catalogue: &ClosedCatalogue,
-    bytes: &mut [u8],
-) -> Result<(), Fault>
-    ensures value { result ≡ fetch_answer S.Store.layer (types catalogue.now) pages (S.Store.pages store.old) n bytes.old }
-    ensures buffer { bytes.new ≡ read_buffer (S.Store.pages store.old) n bytes.old }
+) -> Result<[u8; PAGE_BYTES], Fault>
+    ensures value { result ≡ fetched_bytes S.Store.layer (types catalogue.now) pages (S.Store.pages store.old) n }
     ensures same { S.Store.pages store.new ≡ S.Store.pages store.old }
 {
-    (*store).read(n, bytes)?;
-    first_fault(bytes, n, pages, catalogue)
+    let mut bytes = [0; PAGE_BYTES];
+    (*store).read(n, &mut bytes)?;
+    first_fault(&bytes, n, pages, catalogue)?;
+    Ok(bytes)
 }
 
 impl<S: Store, V: Policy> Pool<S, V> {
@@ -87,8 +86,7 @@ impl<S: Store, V: Policy> Pool<S, V> {
             self.policy.touch(held);
             return Ok(held);
         }
-        let mut bytes = [0u8; PAGE_BYTES];
-        fetch(&mut self.store, n, self.pages, &self.catalogue, &mut bytes)?;
+        let bytes = fetch(&mut self.store, n, self.pages, &self.catalogue)?;
         self.enter(n, &bytes, standing)
     }
 }

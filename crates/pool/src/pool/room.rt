@@ -15,7 +15,7 @@ use policy::{MOST_FRAMES, Policy};
 use std::array;
 use store::Store;
 
-// Writes a page back if it was changed.
+// Writes a page back if it was changed. Takes what it needs of a pool apart, since saving walks over the frames meanwhile.
 pub(super) fn write_back<S: Store>(
     store: &mut S,
     frame: &Frame,
