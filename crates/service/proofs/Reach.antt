@@ -1,9 +1,11 @@
 -- How a call comes to a field. Assumes nothing.
-use Rattle.std.proofs.Common.{◌≡◌, ℕ, ◌<◌, Bool, true, false, not, ltb, List, get_or, Some, None, Ok, Err, Option, Result, sym, refl, ap, ◌∙◌, subst, arith}
+use Rattle.std.proofs.Common.{◌≡◌, ℕ, ◌<◌, Bool, true, false, not, ltb, eqb, List, get_or, Some, None, Ok, Err, Option, Result, sym, refl, ap, ◌∙◌, subst, arith}
 use mathlib.Core.Bool.{beq}
 use Rattle.std.specs.Result.{MatchResult, IsErrAnd}
 use Rattle.std.proofs.lemmas.Result.{err_from_is_err_and}
-use Rattle.std.proofs.lemmas.Bool.{and_from, both_ways, le-leb, lt-ltb}
+use Rattle.std.proofs.lemmas.Bool.{and_from, both_ways, le-leb, lt-ltb, eqb-true, eqb-false}
+use Rattle.std.specs.Prelude.{cond, ok_or}
+use Rattle.page.specs.Links.{named, pointed, position}
 use Rattle.fault.specs.declared.kinds.Cause.TheVariants.{EmptyCursor, NoField, WrongKind}
 use Rattle.fault.specs.declared.kinds.Fault.{Fault}
 use Rattle.fault.specs.Faults.{nowhere, on_field, fault}
@@ -26,7 +28,8 @@ use Rattle.graph.proofs.Opens.{opens as opens-lawful}
 use Rattle.pool.specs.Opening.{held_bytes}
 use Rattle.pool.specs.Pools.{StartsIn, kind_in}
 use Rattle.pool.proofs.Enters.{is_there}
-use Rattle.service.specs.Calls.{Moves, rests, opens}
+use Rattle.service.specs.Calls.{Moves, rests, opens, link_of}
+use Rattle.std.specs.Option.{MatchOption, IsSomeAnd}
 use Rattle.service.specs.Inner.{asks, bytes_in, Object, Came, Reached}
 use Rattle.service.proofs.Holds.{on_objects}
 use Rattle.service.specs.Serving.{setting_of, graph_of, Kept}
@@ -192,3 +195,26 @@ module _ {S V : Type 0} {stores : StoreGhosts S} {policies : PolicyGhosts V} (s 
             there = (object, subst (λ (k : Descriptor). f < k.size) kind_after h);
             moves = moved (Ok i) w;
           }
+
+-- the link that is there, and the one that is absent
+pub there : (x : ℕ) (e : Fault) (at : Position) → ok_or (named x) e ≡ Ok at → (0 < x) × (at ≡ pointed x)
+there x e at q =
+    of (eqb x 0) refl q
+  where
+    of : (b : Bool) → (eqb x 0) ≡ b → ok_or (cond b None (Some (pointed x))) e ≡ Ok at → (0 < x) × (at ≡ pointed x)
+    of true h q = absurd (ok_err at e q)
+    of false h q = let same : at ≡ pointed x = cc in (let z = eqb-false x 0 h in omega (arith, z), same)
+
+pub absent_link : (x : ℕ) (e d : Fault) → ok_or (named x) e ≡ Err d → (x ≡ 0) × (d ≡ e)
+absent_link x e d q =
+    of (eqb x 0) refl q
+  where
+    of : (b : Bool) → (eqb x 0) ≡ b → ok_or (cond b None (Some (pointed x))) e ≡ Err d → (x ≡ 0) × (d ≡ e)
+    of true h q = let same : d ≡ e = cc in (eqb-true x 0 h, same)
+    of false h q = absurd (ok_err (pointed x) d (sym q))
+
+-- the page and cell of a link, told as a pair
+pub pair_of : (o : Option Position) (r : Option (ℕ × ℕ)) (R : Position → ℕ × ℕ → Type 0) → MatchOption o (r ≡ None) (λ at. IsSomeAnd r (R at)) → ((at : Position) (p : ℕ × ℕ) → R at p → p ≡ (at.page, at.cell)) → link_of r ≡ o
+pair_of None r R m k = ap link_of m
+pair_of (Some at) None R m k = absurd m
+pair_of (Some at) (Some p) R m k = ap (λ (q : ℕ × ℕ). Some (position q.0 q.1)) (k at p m)

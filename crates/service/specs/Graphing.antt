@@ -20,7 +20,8 @@ graph_at q cs = record { pages = stood_for q; cursors = cs }
 abbrev pub bytes_at : List Page → ℕ → List ℕ
 bytes_at ps n = held_by (page_at ps n).content []
 
--- an object of a lawful page starts there
+-- an object of a lawful page starts there: what the graph says of its objects, with the bytes computed, since a service's
+-- own facts may hold no data
 pub record OnObject (ts : List Descriptor) (ps : List Page) (at : Position) : Type 0 where
   pub lawful : LawfulPage ts ps at.page (bytes_at ps at.page)
   pub begins : starts_at ts (bytes_at ps at.page) at.cell ≡ true

@@ -6,6 +6,7 @@ ghost use Rattle.fault.specs.declared.kinds.Cause.TheVariants.{EmptyCursor};
 ghost use Rattle.frame.specs.Links.{is_page as is_number};
 ghost use Rattle.pageset.specs.Sets.{holds};
 ghost use Rattle.store.specs.Pages.{is_page};
+ghost use Rattle.page.specs.Links.{named as named_of};
 ghost use Rattle.graph.specs.Graphs.{on_cursor};
 ghost use Rattle.graph.specs.Steps.{cursor as cursor_check, stands_on};
 ghost use Rattle.service.specs.Inner.{on, Came, Reached};
@@ -38,6 +39,16 @@ pub(super) fn check_cursor(cursor: u64) -> Result<(), Fault>
         return Err(Fault::new(Cause::NoCursor, LAYER, Place::nowhere()));
     }
     Ok(())
+}
+
+// The object that a long pointer names, if any.
+pub(super) fn named(pointer: u64) -> Option<Position>
+    ensures { result ≡ named_of pointer }
+{
+    if pointer == 0 {
+        return None;
+    }
+    Some(Position::from(pointer))
 }
 
 // Puts the page on which a cursor stands into the set.

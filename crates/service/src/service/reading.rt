@@ -1,26 +1,14 @@
 // Calls that read a field of the object on which a cursor stands.
 ghost use Rattle.std.specs.Prelude.{◌≡◌};
-ghost use Rattle.graph.specs.Steps.{named};
 ghost use Rattle.service.specs.Calls.{number, names, link_of, Did};
 ghost use Rattle.service.specs.Serving.{owners};
 
 use crate::service::Service;
-use crate::service::reach::check_cursor;
+use crate::service::reach::{check_cursor, named};
 use fault::Fault;
-use graph::{Call, Position};
+use graph::Call;
 use policy::Policy;
 use store::Store;
-
-// The page and cell that a long pointer names.
-fn pair(pointer: u64) -> Option<(u64, u64)>
-    ensures { link_of result ≡ named pointer }
-{
-    if pointer == 0 {
-        return None;
-    }
-    let at = Position::from(pointer);
-    Some((at.page, at.cell))
-}
 
 impl<S: Store, V: Policy> Service<S, V> {
     // The number in a field.
@@ -38,7 +26,8 @@ impl<S: Store, V: Policy> Service<S, V> {
     {
         check_cursor(cursor)?;
         let spot = self.spot(cursor, field, true)?;
-        Ok(pair(self.pool.stored(spot.frame, spot.at.cell, field)))
+        let pointer = self.pool.stored(spot.frame, spot.at.cell, field);
+        Ok(named(pointer).map(|at| (at.page, at.cell)))
     }
 
     // The cell of a link as it stands in the frame: 0, or an address.

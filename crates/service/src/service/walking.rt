@@ -7,7 +7,7 @@ ghost use Rattle.service.specs.Inner.{Entered};
 ghost use Rattle.service.specs.Serving.{setting_of, Kept, graph_of};
 
 use crate::service::Service;
-use crate::service::reach::{LAYER, check_cursor};
+use crate::service::reach::{LAYER, check_cursor, named};
 use fault::{Cause, Fault, Place};
 use graph::{Call, Position};
 use policy::Policy;
@@ -69,10 +69,8 @@ impl<S: Store, V: Policy> Service<S, V> {
         let spot = self.spot(cursor, field, true)?;
         let link = Place::on_field(spot.at.page, spot.at.cell, field);
         let pointer = self.pool.stored(spot.frame, spot.at.cell, field);
-        if pointer == 0 {
-            return Err(Fault::new(Cause::AbsentLink, LAYER, link));
-        }
-        let at = Position::from(pointer);
+        let absent = Fault::new(Cause::AbsentLink, LAYER, link);
+        let at = named(pointer).ok_or(absent)?;
         self.enter(at).map_err(|fault| fault.via(link))?;
         self.cursors[second as usize] = Some(at);
         Ok(())

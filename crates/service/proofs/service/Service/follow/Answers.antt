@@ -1,4 +1,4 @@
-use Rattle.std.proofs.Common.{◌<◌, true, set, Some, Err, sym, refl, ap, ◌∙◌, subst, rules, arith}
+use Rattle.std.proofs.Common.{true, set, Some, Err, sym, refl, ap, ◌∙◌, subst, rules}
 use Rattle.std.proofs.lemmas.Result.{err_from_is_err_and}
 use Rattle.fault.specs.Refusals.{Checked}
 use Rattle.graph.specs.declared.calls.Call.{Call}
@@ -19,7 +19,8 @@ use Rattle.graph.specs.Graphs.{on_cursor}
 use Rattle.pool.specs.Needs.{Covers}
 use Rattle.service.specs.Inner.{Entered}
 use Rattle.service.specs.Graphing.{graph_at, Standing}
-use Rattle.service.proofs.Reach.{err_mapped, ok_mapped}
+use Rattle.std.specs.Prelude.{ok_or, Option}
+use Rattle.service.proofs.Reach.{err_mapped, ok_mapped, there, absent_link}
 use Rattle.service.proofs.Stepping.{follow_first, follow_second, no_field, absent, target_page, not_followed, follow_stood, follow_covered, follows}
 use Rattle.service.proofs.service.Service.follow.Goals as goal
 
@@ -50,8 +51,8 @@ returns-in_err-spot g c =
     subst (λ (r : Checked (Unit {0})). Did s u (Call.Follow c.args.cursor c.args.field c.args.second) (done r)) (sym (q.1 ∙ ap Err q.2))
     (no_field g.S.Store.laws.few g.S.Store.laws.whole s u c.args.cursor c.args.field c.args.second c.spot.ensures.kept c.spot.ensures.cursors known known' e (c.in_err-spot.ensures.reached))
 
-pub returns-then-pointer-eq0 : goal.returns-then-pointer-eq0
-returns-then-pointer-eq0 g c =
+pub returns-in_err-at : goal.returns-in_err-at
+returns-in_err-at g c =
     let s = c.args.self.now in
     let known = c.in_ok-check_cursor.ensures.within in
     let known' = c.in_ok-check_cursor-2.ensures.within in
@@ -60,7 +61,11 @@ returns-then-pointer-eq0 g c =
     let w = c.in_ok-spot.ensures.reached in
     let x = c.stored-pointer.result in
     let eq = told_is g.S.Store.laws.few g.S.Store.laws.whole s u c.args.cursor c.args.field true c.spot.ensures.kept known o w (λ bs. field_at bs o.at.cell c.args.field) x c.stored-pointer.ensures in
-    absent g.S.Store.laws.few g.S.Store.laws.whole s u c.args.cursor c.args.field c.args.second c.spot.ensures.kept c.spot.ensures.cursors known known' o w c.new.result (c.new.ensures ∙ ap (fault AbsentLink 2) c.on_field-link.ensures) (sym eq ∙ c.if-pointer-eq0.true)
+    let q = err_from_is_err_and c.from_residual-in_err-at.result c.from_residual-in_err-at.ensures.1 in
+    let e = c.in_err-at.field-0.0 in
+    let gone = absent_link x c.new-absent.result e (sym (c.ok_or.ensures.value ∙ ap (λ (r : Option Position). ok_or r c.new-absent.result) c.named.ensures) ∙ c.in_err-at.was) in
+    subst (λ (r : Checked (Unit {0})). Did s u (Call.Follow c.args.cursor c.args.field c.args.second) (done r)) (sym (q.1 ∙ ap Err q.2))
+    (absent g.S.Store.laws.few g.S.Store.laws.whole s u c.args.cursor c.args.field c.args.second c.spot.ensures.kept c.spot.ensures.cursors known known' o w e (gone.1 ∙ c.new-absent.ensures ∙ ap (fault AbsentLink 2) c.on_field-link.ensures) (sym eq ∙ gone.0))
 
 pub enter-requires : goal.enter-requires
 enter-requires g c =
@@ -72,8 +77,9 @@ enter-requires g c =
     let w = c.in_ok-spot.ensures.reached in
     let x = c.stored-pointer.result in
     let eq = told_is g.S.Store.laws.few g.S.Store.laws.whole s u c.args.cursor c.args.field true c.spot.ensures.kept known o w (λ bs. field_at bs o.at.cell c.args.field) x c.stored-pointer.ensures in
-    let some : 0 < x = omega (arith, c.if-pointer-eq0.false) in
-    ap (λ (p : Position). is_page (graph_of u).pages p.page) c.from-at.ensures
+    let gotten = there x c.new-absent.result c.in_ok-at.at (sym (c.ok_or.ensures.value ∙ ap (λ (r : Option Position). ok_or r c.new-absent.result) c.named.ensures) ∙ c.in_ok-at.was) in
+    let some = gotten.0 in
+    ap (λ (p : Position). is_page (graph_of u).pages p.page) gotten.1
     ∙ target_page g.S.Store.laws.few g.S.Store.laws.whole s u c.args.cursor c.args.field c.args.second c.spot.ensures.kept c.spot.ensures.cursors known known' o w x eq some
 
 pub returns-in_err-map_err : goal.returns-in_err-map_err
@@ -86,8 +92,9 @@ returns-in_err-map_err g c =
     let w = c.in_ok-spot.ensures.reached in
     let x = c.stored-pointer.result in
     let eq = told_is g.S.Store.laws.few g.S.Store.laws.whole s u c.args.cursor c.args.field true c.spot.ensures.kept known o w (λ bs. field_at bs o.at.cell c.args.field) x c.stored-pointer.ensures in
-    let some : 0 < x = omega (arith, c.if-pointer-eq0.false) in
-    let at = c.from-at.ensures in
+    let gotten = there x c.new-absent.result c.in_ok-at.at (sym (c.ok_or.ensures.value ∙ ap (λ (r : Option Position). ok_or r c.new-absent.result) c.named.ensures) ∙ c.in_ok-at.was) in
+    let some = gotten.0 in
+    let at = gotten.1 in
     let t = c.enter.new.self in
     let q = err_from_is_err_and c.from_residual-in_err-map_err.result c.from_residual-in_err-map_err.ensures.1 in
     let m = err_mapped c.enter.result c.map_err.result _ (via c.on_field-link.result) c.in_err-map_err.field-0.0 c.in_err-map_err.was c.map_err.ensures.cases (λ e y k. search rules) in
@@ -104,8 +111,9 @@ invariant_of-self-clause-stand g c =
     let w = c.in_ok-spot.ensures.reached in
     let x = c.stored-pointer.result in
     let eq = told_is g.S.Store.laws.few g.S.Store.laws.whole s u c.args.cursor c.args.field true c.spot.ensures.kept known o w (λ bs. field_at bs o.at.cell c.args.field) x c.stored-pointer.ensures in
-    let some : 0 < x = omega (arith, c.if-pointer-eq0.false) in
-    let at = c.from-at.ensures in
+    let gotten = there x c.new-absent.result c.in_ok-at.at (sym (c.ok_or.ensures.value ∙ ap (λ (r : Option Position). ok_or r c.new-absent.result) c.named.ensures) ∙ c.in_ok-at.was) in
+    let some = gotten.0 in
+    let at = gotten.1 in
     let t = c.enter.new.self in
     let went = ok_mapped c.enter.result c.map_err.result _ tt c.in_ok-map_err.was c.map_err.ensures.cases in
     let entered = subst (λ (p : Position). Entered u t p c.enter.result) at c.enter.ensures.entered in
@@ -122,8 +130,9 @@ invariant_of-self-clause-covered g c =
     let w = c.in_ok-spot.ensures.reached in
     let x = c.stored-pointer.result in
     let eq = told_is g.S.Store.laws.few g.S.Store.laws.whole s u c.args.cursor c.args.field true c.spot.ensures.kept known o w (λ bs. field_at bs o.at.cell c.args.field) x c.stored-pointer.ensures in
-    let some : 0 < x = omega (arith, c.if-pointer-eq0.false) in
-    let at = c.from-at.ensures in
+    let gotten = there x c.new-absent.result c.in_ok-at.at (sym (c.ok_or.ensures.value ∙ ap (λ (r : Option Position). ok_or r c.new-absent.result) c.named.ensures) ∙ c.in_ok-at.was) in
+    let some = gotten.0 in
+    let at = gotten.1 in
     let t = c.enter.new.self in
     let went = ok_mapped c.enter.result c.map_err.result _ tt c.in_ok-map_err.was c.map_err.ensures.cases in
     let entered = subst (λ (p : Position). Entered u t p c.enter.result) at c.enter.ensures.entered in
@@ -140,8 +149,9 @@ returns g c =
     let w = c.in_ok-spot.ensures.reached in
     let x = c.stored-pointer.result in
     let eq = told_is g.S.Store.laws.few g.S.Store.laws.whole s u c.args.cursor c.args.field true c.spot.ensures.kept known o w (λ bs. field_at bs o.at.cell c.args.field) x c.stored-pointer.ensures in
-    let some : 0 < x = omega (arith, c.if-pointer-eq0.false) in
-    let at = c.from-at.ensures in
+    let gotten = there x c.new-absent.result c.in_ok-at.at (sym (c.ok_or.ensures.value ∙ ap (λ (r : Option Position). ok_or r c.new-absent.result) c.named.ensures) ∙ c.in_ok-at.was) in
+    let some = gotten.0 in
+    let at = gotten.1 in
     let t = c.enter.new.self in
     let went = ok_mapped c.enter.result c.map_err.result _ tt c.in_ok-map_err.was c.map_err.ensures.cases in
     let entered = subst (λ (p : Position). Entered u t p c.enter.result) at c.enter.ensures.entered in

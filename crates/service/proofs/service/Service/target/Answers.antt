@@ -1,4 +1,4 @@
-use Rattle.std.proofs.Common.{◌≡◌, ℕ, true, Ok, Err, Option, sym, refl, ap, ◌∙◌, subst}
+use Rattle.std.proofs.Common.{◌≡◌, ℕ, true, Ok, Err, Option, sym, refl, ap, ◌∙◌, subst, rules}
 use Rattle.std.proofs.lemmas.Result.{err_from_is_err_and}
 use Rattle.fault.specs.Refusals.{Checked}
 use Rattle.page.specs.Form.{field_at}
@@ -11,6 +11,7 @@ use Rattle.service.specs.Calls.{names, link_of, rests, Did}
 use Rattle.service.specs.Inner.{spot_of}
 use Rattle.service.specs.Serving.{setting_of, graph_of}
 use Rattle.service.proofs.Opening.{kept_by}
+use Rattle.service.proofs.Reach.{pair_of}
 use Rattle.service.proofs.Doing.{refuses}
 use Rattle.service.proofs.Telling.{cursor_known, told_field, told_ok, target_cursor, told_is, field_is, refused_field, told_field_of}
 use Rattle.service.proofs.service.Service.target.Goals as goal
@@ -45,8 +46,8 @@ returns g c =
     let o = c.in_ok-spot.spot in
     let w = c.in_ok-spot.ensures.reached in
     let is = field_is g.S.Store.laws.few g.S.Store.laws.whole s t c.args.cursor c.args.field true c.spot.ensures.kept known o w in
-    let x = c.stored.result in
-    let eq : x ≡ held (spot_of t c.args.field o) = told_is g.S.Store.laws.few g.S.Store.laws.whole s t c.args.cursor c.args.field true c.spot.ensures.kept known o w (λ bs. field_at bs o.at.cell c.args.field) x c.stored.ensures in
-    told_field_of g.S.Store.laws.few g.S.Store.laws.whole s t c.args.cursor c.args.field true c.spot.ensures.kept known (Call.Target c.args.cursor c.args.field) (openings.target c.args.cursor c.args.field) (Ok o) w (Names (named (held (spot_of t c.args.field o)))) (Ok (Names (link_of c.pair.result)))
+    let x = c.stored-pointer.result in
+    let eq : x ≡ held (spot_of t c.args.field o) = told_is g.S.Store.laws.few g.S.Store.laws.whole s t c.args.cursor c.args.field true c.spot.ensures.kept known o w (λ bs. field_at bs o.at.cell c.args.field) x c.stored-pointer.ensures in
+    told_field_of g.S.Store.laws.few g.S.Store.laws.whole s t c.args.cursor c.args.field true c.spot.ensures.kept known (Call.Target c.args.cursor c.args.field) (openings.target c.args.cursor c.args.field) (Ok o) w (Names (named (held (spot_of t c.args.field o)))) (Ok (Names (link_of c.map.result)))
     (told_ok (setting_of s) G (λ y. Names y) (λ o. named (held o)) (steps.cursor c.args.cursor) (steps.link_field (setting_of s) G c.args.cursor c.args.field) (spot_of t c.args.field o) (cursor_known c.args.cursor known) is)
-    (ap (λ y. Ok (Names y)) (c.pair.ensures ∙ ap named eq))
+    (ap (λ y. Ok (Names y)) (pair_of c.named.result c.map.result _ c.map.ensures.cases (λ at p k. search rules) ∙ c.named.ensures ∙ ap named eq))
