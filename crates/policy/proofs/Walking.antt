@@ -1,8 +1,8 @@
 -- How a scan goes on. Assumes nothing.
-use Rattle.std.proofs.Common.{◌≡◌, ℕ, zero, suc, ◌+◌, ◌-◌, ◌<◌, ◌≤◌, Bool, true, false, ltb, ◌⊎◌, inl, inr, Option, Some, None, List, [], ◌∷◌, ◌++◌, get_or, set, sym, refl, ap, ◌∙◌, ⊎_elim, append-nil, add-one, arith}
+use Rattle.std.proofs.Common.{◌≡◌, ℕ, zero, suc, ◌+◌, ◌-◌, ◌<◌, ◌≤◌, Bool, true, false, ltb, ◌⊎◌, inl, inr, Option, Some, None, List, [], ◌∷◌, ◌++◌, get_or, set, sym, refl, ap, ◌∙◌, ⊎_elim, append-nil, add-one, IfSome, arith}
 use Rattle.std.proofs.lemmas.Bool.{cases_Bool, cases_eq, cases_lt, lt-ltb, le-ltb}
 use Rattle.std.specs.List.{find, range_with_len}
-use Rattle.std.specs.Option.{option_map, unwrap_or}
+use Rattle.std.specs.Option.{option_map, unwrap_or, MatchOption}
 use Rattle.policy.specs.Answers.{Answer}
 use Rattle.policy.specs.Turns.{span, around, first_held, round_taken, came, walk, first_round, chance_taken, chance_left}
 
@@ -122,13 +122,18 @@ second_part occ ts f next =
     rw same (ap (λ ks. walk occ f ks ts) (sym (append-nil (span 0 next))))
 
 -- of the second part
-pub chance_sooner : (occ ts ts' ts'' : List Bool) (f next r : ℕ) → r < f → walk occ f (span next (f - next) ++ span 0 next) ts ≡ walk occ f (span 0 next) ts' → walk occ f (span 0 (next - 0) ++ []) ts' ≡ came r ts'' → (r ≡ chance_taken occ ts f next) × (ts'' ≡ chance_left occ ts f next)
+chance_sooner : (occ ts ts' ts'' : List Bool) (f next r : ℕ) → r < f → walk occ f (span next (f - next) ++ span 0 next) ts ≡ walk occ f (span 0 next) ts' → walk occ f (span 0 (next - 0) ++ []) ts' ≡ came r ts'' → (r ≡ chance_taken occ ts f next) × (ts'' ≡ chance_left occ ts f next)
 chance_sooner occ ts ts' ts'' f next r l d e = chance_later occ ts ts'' f next r l (d ∙ second_part occ ts' f next ∙ e)
 
 -- or none
-pub chance_none : (occ ts ts' ts'' : List Bool) (f next r : ℕ) → walk occ f (span next (f - next) ++ span 0 next) ts ≡ walk occ f (span 0 next) ts' → walk occ f (span 0 (next - 0) ++ []) ts' ≡ walk occ f [] ts'' → r ≡ round_taken occ f next → (r ≡ chance_taken occ ts f next) × (ts'' ≡ chance_left occ ts f next)
+chance_none : (occ ts ts' ts'' : List Bool) (f next r : ℕ) → walk occ f (span next (f - next) ++ span 0 next) ts ≡ walk occ f (span 0 next) ts' → walk occ f (span 0 (next - 0) ++ []) ts' ≡ walk occ f [] ts'' → r ≡ round_taken occ f next → (r ≡ chance_taken occ ts f next) × (ts'' ≡ chance_left occ ts f next)
 unfolding walk around first_round chance_taken chance_left
 chance_none occ ts ts' ts'' f next r d e t =
     let went = d ∙ second_part occ ts' f next ∙ e in
     let no : ltb f f ≡ false = le-ltb f f (omega arith) in
     (rw (went, no) t, rw (chance_left, went))
+
+-- the second part, and after it the next round
+pub chance_rest : (occ ts ts' ts'' : List Bool) (f next : ℕ) (q r : Option ℕ) (P : Type 0) → next ≤ f → walk occ f (span next (f - next) ++ span 0 next) ts ≡ walk occ f (span 0 next) ts' → IfSome q (λ k. (k < next) × (get_or occ k false ≡ true)) → IfSome q (λ k. (none : ℕ) (rest : List ℕ) → walk occ none (span 0 (next - 0) ++ rest) ts' ≡ came k ts'') → (q ≡ None → (none : ℕ) (rest : List ℕ) → walk occ none (span 0 (next - 0) ++ rest) ts' ≡ walk occ none rest ts'') → MatchOption q P (λ k. r ≡ Some k) → (P → unwrap_or r f ≡ round_taken occ f next) → (unwrap_or r f ≡ chance_taken occ ts f next) × (ts'' ≡ chance_left occ ts f next)
+chance_rest occ ts ts' ts'' f next None r P w d found taken over m turn = chance_none occ ts ts' ts'' f next (unwrap_or r f) d (over refl f []) (turn m)
+chance_rest occ ts ts' ts'' f next (Some k) r P w d found taken over m turn = rw m (chance_sooner occ ts ts' ts'' f next k (omega (arith, found.0)) d (taken f []))

@@ -4,7 +4,7 @@ ghost use Rattle.std.specs.Option.{unwrap_or};
 ghost use Rattle.policy.specs.Answers.{Answer};
 ghost use Rattle.policy.specs.Turns.{span, walk, came, round_taken, chance_taken, chance_left};
 
-use crate::MOST_FRAMES;
+use crate::{MOST_FRAMES, RoundRobin};
 
 // Whether a frame is marked; one past the slice is not.
 fn has(marks: &[bool], frame: usize) -> bool
@@ -20,16 +20,6 @@ pub(crate) fn put(marks: &mut [bool; MOST_FRAMES], frame: usize, value: bool)
     if frame < MOST_FRAMES {
         marks[frame] = value;
     }
-}
-
-// The first occupied frame from next on, going round.
-pub(crate) fn turn(occupied: &[bool], frames: usize, next: usize) -> Option<usize>
-    requires { next ≤ frames }
-    ensures below { IfSome result (λ k. k < frames) }
-    ensures answer { Answer occupied.now frames (unwrap_or result frames) }
-    ensures exact { unwrap_or result frames ≡ round_taken occupied.now frames next }
-{
-    (next..frames).chain(0..next).find(|&k| has(occupied, k))
 }
 
 // The first occupied frame from low on that was not touched. The occupied frames that it passes are touched no more, so
@@ -57,24 +47,33 @@ fn pass(
     None
 }
 
-// The first occupied frame from next on, going round, that was not touched, or else the first occupied one.
-pub(crate) fn second_turn(
-    touched: &mut [bool; MOST_FRAMES],
-    occupied: &[bool],
-    frames: usize,
-    next: usize,
-) -> Option<usize>
-    requires { next ≤ frames }
-    ensures below { IfSome result (λ k. k < frames) }
-    ensures answer { Answer occupied.now frames (unwrap_or result frames) }
-    ensures exact { unwrap_or result frames ≡ chance_taken occupied.now touched.old frames next }
-    ensures left { touched.new ≡ chance_left occupied.now touched.old frames next }
-{
-    if let Some(later) = pass(touched, occupied, next, frames) {
-        return Some(later);
+impl RoundRobin {
+    // The first occupied frame from next on, going round.
+    pub(crate) fn turn(&self, occupied: &[bool]) -> Option<usize>
+        ensures below { IfSome result (λ k. k < self.now.frames) }
+        ensures answer { Answer occupied.now self.now.frames (unwrap_or result self.now.frames) }
+        ensures exact { unwrap_or result self.now.frames ≡ round_taken occupied.now self.now.frames self.now.next }
+    {
+        (self.next..self.frames)
+            .chain(0..self.next)
+            .find(|&k| has(occupied, k))
     }
-    if let Some(sooner) = pass(touched, occupied, 0, next) {
-        return Some(sooner);
+
+    // The first occupied frame from next on, going round, that was not touched, or else the first occupied one.
+    pub(crate) fn second_turn(
+        &self,
+        touched: &mut [bool; MOST_FRAMES],
+        occupied: &[bool],
+    ) -> Option<usize>
+        ensures below { IfSome result (λ k. k < self.now.frames) }
+        ensures answer { Answer occupied.now self.now.frames (unwrap_or result self.now.frames) }
+        ensures exact { unwrap_or result self.now.frames ≡ chance_taken occupied.now touched.old self.now.frames self.now.next }
+        ensures left { touched.new ≡ chance_left occupied.now touched.old self.now.frames self.now.next }
+    {
+        // Tried as an `or_else`: it does not tell what the touches are when its closure is not called, so `left` stayed open.
+        if let Some(later) = pass(touched, occupied, self.next, self.frames) {
+            return Some(later);
+        }
+        pass(touched, occupied, 0, self.next).or_else(|| self.turn(occupied))
     }
-    turn(occupied, frames, next)
 }

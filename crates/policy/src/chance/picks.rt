@@ -5,8 +5,8 @@ ghost use Rattle.policy.specs.Turns.{following, marked};
 ghost use Rattle.policy.specs.Picks.{ChancePicks, ChanceTouches};
 
 use crate::chance::SecondChance;
-use crate::scan::{put, second_turn};
-use crate::{MOST_FRAMES, Policy, RoundRobin};
+use crate::scan::put;
+use crate::{MOST_FRAMES, Policy};
 
 impl Policy for SecondChance {
     ghost frames = { λ p. p.round.frames };
@@ -42,8 +42,7 @@ impl Policy for SecondChance {
         ensures answer { Answer occupied.now self.old.round.frames result }
         ensures picked { ChancePicks self.old occupied.now result self.new }
     {
-        let RoundRobin { frames, next } = self.round;
-        let taken = second_turn(&mut self.touched, occupied, frames, next);
+        let taken = self.round.second_turn(&mut self.touched, occupied);
         self.round.answered(taken)
     }
 }

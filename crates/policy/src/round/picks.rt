@@ -7,7 +7,6 @@ ghost use Rattle.policy.specs.Runs.{Fair};
 
 use crate::Policy;
 use crate::round::RoundRobin;
-use crate::scan::turn;
 
 impl RoundRobin {
     // Within how many answers it takes a frame that stays occupied.
@@ -51,7 +50,7 @@ impl Policy for RoundRobin {
         ensures answer { Answer occupied.now self.old.frames result }
         ensures picked { RoundPicks self.old occupied.now result self.new }
     {
-        let taken = turn(occupied, self.frames, self.next);
+        let taken = self.turn(occupied);
         self.answered(taken)
     }
 }
