@@ -1,3 +1,4 @@
+pub mod Weights
 pub mod Pages
 pub mod Pairs
 pub mod Parts

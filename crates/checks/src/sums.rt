@@ -19,11 +19,11 @@ pub(super) fn weigh(bytes: &[u8]) -> u64
     requires { length bytes.now ≤ 512 }
     ensures { result ≡ check bytes.now }
 {
-    let mut sum = 0;
-    for (i, &byte) in bytes.iter().enumerate() {
-        sum += share(i, byte);
-    }
-    sum
+    bytes
+        .iter()
+        .enumerate()
+        .map(|(i, byte)| share(i, *byte))
+        .sum()
 }
 
 // How many pages the layer has over `below` pages: one page of checks stands above each 64.

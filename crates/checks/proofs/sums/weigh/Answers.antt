@@ -1,16 +1,20 @@
-use Rattle.std.proofs.Common.{◌≡◌, ◌+◌, ◌*◌, get_or, drop, arith, rules}
-use Rattle.std.proofs.lemmas.List.{at_drop_more, at_drop_all}
-use Rattle.checks.specs.Layer.{weighted, check}
+use Rattle.std.proofs.Common.{rules, ◌∙◌, arith}
+use Rattle.std.specs.List.{enumerate_from}
+use Rattle.std.proofs.lemmas.Iterator.{YieldsList-from_slice, YieldsList-from_map}
+use Rattle.std.proofs.lemmas.Iterator.Consumers.{YieldsList-from_enumerate, sum_by_from_yields_List, fits_by_from_yields_list}
+use Rattle.checks.specs.Layer.{check}
+use Rattle.checks.proofs.Weights.{share, shares, shares_few}
 use Rattle.checks.proofs.sums.weigh.Goals as goal
 
-pub loop-i-preserved : goal.loop-i-preserved
-loop-i-preserved c =
-    let m : weighted (c.loop-i.i + 1) (drop c.loop-i.i c.args.bytes.now) ≡ (c.loop-i.i + 1) * get_or c.args.bytes.now c.loop-i.i 0 + weighted (c.loop-i.i + 1 + 1) (drop (c.loop-i.i + 1) c.args.bytes.now) =
-    at_drop_more (weighted (c.loop-i.i + 1)) c.args.bytes.now c.loop-i.i 0 (search rules) in
-    (omega (arith, c.loop-i.invariant.0, c.share-sum.ensures, m), search rules)
+pub sum-requires-clause-fits : goal.sum-requires-clause-fits
+sum-requires-clause-fits c =
+    fits_by_from_yields_list share (enumerate_from 0 c.args.bytes.now) _ _
+    (YieldsList-from_map _ share (YieldsList-from_enumerate (YieldsList-from_slice c.args.bytes.now (cc)) (cc)) (cc) (λ x r q k. search rules))
+    (shares_few c.args.bytes.now (λ i. omega (arith, c.type_inv.bytes i)) c.requires)
 
 pub returns : goal.returns
 unfolding check
 returns c =
-    let m : weighted (c.loop-i.i + 1) (drop c.loop-i.i c.args.bytes.now) ≡ 0 = at_drop_all (weighted (c.loop-i.i + 1)) c.args.bytes.now c.loop-i.i (search rules) in
-    omega (arith, c.loop-i.invariant.0, m)
+    sum_by_from_yields_List share (enumerate_from 0 c.args.bytes.now) _ c.sum.result c.sum.ensures.ran
+    (YieldsList-from_map _ share (YieldsList-from_enumerate (YieldsList-from_slice c.args.bytes.now (cc)) (cc)) (cc) (λ x r q k. search rules))
+    ∙ shares 0 c.args.bytes.now
