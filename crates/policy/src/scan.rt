@@ -70,7 +70,7 @@ impl RoundRobin {
         ensures exact { unwrap_or result self.now.frames ≡ chance_taken occupied.now touched.old self.now.frames self.now.next }
         ensures left { touched.new ≡ chance_left occupied.now touched.old self.now.frames self.now.next }
     {
-        // Tried as an `or_else`: it does not tell what the touches are when its closure is not called, so `left` stayed open.
+        // Tried as an `or_else`: it does not say what the touches are where its closure is not called, so `left` stays open.
         if let Some(later) = pass(touched, occupied, self.next, self.frames) {
             return Some(later);
         }
