@@ -2,8 +2,8 @@
 ghost use Rattle.std.specs.Prelude.{◌≡◌};
 ghost use Rattle.page.specs.Descriptors.{linked};
 
-// A type of object: its number of fields, and a mask whose bit f says that field f is a link.
-#[derive(Clone, Copy, Debug, PartialEq, Eq)]
+// A type of object: its number of fields, and a mask whose bit f says that field f is a link. The default has no fields.
+#[derive(Clone, Copy, Debug, Default, PartialEq, Eq)]
 pub struct Descriptor {
     pub size: u64,
     pub mask: u64,

@@ -17,7 +17,7 @@ impl Table {
     {
         Table {
             count: 0,
-            descriptors: [Descriptor { size: 0, mask: 0 }; 32],
+            descriptors: [Descriptor::default(); 32],
         }
     }
 

@@ -32,7 +32,8 @@ impl<'a, 'k> Page<'a, 'k> {
         requires { cell + descriptor.size ≤ 63 }
         ensures { result ≡ links_fault self.now.pages self.now.number self.now.bytes.now descriptor cell 0 descriptor.size }
     {
-        // No plainer as a chain: a fault needs the field, its number and the cause at once.
+        // No plainer as a chain: a fault needs the field, its number and the cause at once. With `map_err(..)?` inside, a
+        // proof learns nothing of the fault that the closure makes.
         for field in 0..descriptor.size {
             if descriptor.is_link(field) {
                 if let Err(cause) = to_link(self.cell_at(cell + 1 + field), self.pages) {
