@@ -6,7 +6,8 @@ use Rattle.std.proofs.lemmas.List.{drop_more}
 use Rattle.page.specs.Descriptors.{no_type, declared, type_of, found}
 use Rattle.page.specs.Walks.{kind_of, odd, links_from, link_cells, starts_from, start_cells, any_leads}
 use Rattle.page.specs.declared.descriptor.Descriptor.{Descriptor}
-use Rattle.frame.specs.Links.{fields_after}
+use Rattle.frame.specs.Links.{no_fields, fields_after}
+use Rattle.frame.specs.declared.walk.Fields.{Fields}
 
 some_if : {A : Type 0} (b : Bool) (x : A) → is_some (cond b (Some x) None) ≡ b
 some_if true x = refl
@@ -59,29 +60,29 @@ length_start_cells ts [] = refl
 length_start_cells ts (x ∷ xs) = ap suc (length_starts_from ts 0 xs)
 
 -- one cell of the walk
-links_cons : (ts : List Descriptor) (k m x : ℕ) (xs : List ℕ) → links_from ts k m (x ∷ xs) ≡ (nat_lt 0 k && odd m) ∷ links_from ts (fields_after ts (record { size = k; mask = m }) x).size (fields_after ts (record { size = k; mask = m }) x).mask xs
+links_cons : (ts : List Descriptor) (k m x : ℕ) (xs : List ℕ) → links_from ts k m (x ∷ xs) ≡ (nat_lt 0 k && odd m) ∷ links_from ts (fields_after ts (record { left = k; links = m }) x).left (fields_after ts (record { left = k; links = m }) x).links xs
 links_cons ts zero m x xs = refl
 links_cons ts (suc k) m x xs = let e : suc k - 1 ≡ k = omega arith in rw (lt-ltb 0 (suc k) (omega arith), ne_eqb (suc k) 0 (λ z. omega arith), e) refl
 
-starts_cons : (ts : List Descriptor) (k m x : ℕ) (xs : List ℕ) → starts_from ts k (x ∷ xs) ≡ (eqb k 0 && declared ts x) ∷ starts_from ts (fields_after ts (record { size = k; mask = m }) x).size xs
+starts_cons : (ts : List Descriptor) (k m x : ℕ) (xs : List ℕ) → starts_from ts k (x ∷ xs) ≡ (eqb k 0 && declared ts x) ∷ starts_from ts (fields_after ts (record { left = k; links = m }) x).left xs
 starts_cons ts zero m x xs = refl
 starts_cons ts (suc k) m x xs = let e : suc k - 1 ≡ k = omega arith in rw (ne_eqb (suc k) 0 (λ z. omega arith), e) refl
 
 -- the walk's flags at cell i, where the fields d are still to come
-pub links_step : (ts : List Descriptor) (bs : List Bool) (xs : List ℕ) (i : ℕ) (d : Descriptor) → i < length xs → drop i bs ≡ links_from ts d.size d.mask (drop i xs)
-    → (get_or bs i false ≡ (nat_lt 0 d.size && odd d.mask)) × (drop (i + 1) bs ≡ links_from ts (fields_after ts d (get_or xs i 0)).size (fields_after ts d (get_or xs i 0)).mask (drop (i + 1) xs))
-links_step ts bs xs i d h e = cut bs i _ false _ (e ∙ ap (λ l. links_from ts d.size d.mask l) (drop_more xs i 0 h) ∙ links_cons ts d.size d.mask (get_or xs i 0) (drop (i + 1) xs))
+pub links_step : (ts : List Descriptor) (bs : List Bool) (xs : List ℕ) (i : ℕ) (d : Fields) → i < length xs → drop i bs ≡ links_from ts d.left d.links (drop i xs)
+    → (get_or bs i false ≡ (nat_lt 0 d.left && odd d.links)) × (drop (i + 1) bs ≡ links_from ts (fields_after ts d (get_or xs i 0)).left (fields_after ts d (get_or xs i 0)).links (drop (i + 1) xs))
+links_step ts bs xs i d h e = cut bs i _ false _ (e ∙ ap (λ l. links_from ts d.left d.links l) (drop_more xs i 0 h) ∙ links_cons ts d.left d.links (get_or xs i 0) (drop (i + 1) xs))
 
 -- whether an object starts at cell i, by the fields still to come there
-starts_fold : (ts : List Descriptor) (d : Descriptor) (xs : List ℕ) (i : ℕ) → i < length xs → get_or (starts_from ts d.size xs) i false ≡ (eqb (fold (fields_after ts) d (take i xs)).size 0 && declared ts (get_or xs i 0))
+starts_fold : (ts : List Descriptor) (d : Fields) (xs : List ℕ) (i : ℕ) → i < length xs → get_or (starts_from ts d.left xs) i false ≡ (eqb (fold (fields_after ts) d (take i xs)).left 0 && declared ts (get_or xs i 0))
 starts_fold ts d [] i h = absurd (omega arith)
-starts_fold ts d (x ∷ xs) zero h = ap (λ l. get_or l 0 false) (starts_cons ts d.size d.mask x xs)
-starts_fold ts d (x ∷ xs) (suc i) h = ap (λ l. get_or l (suc i) false) (starts_cons ts d.size d.mask x xs) ∙ starts_fold ts (fields_after ts d x) xs i (omega arith)
+starts_fold ts d (x ∷ xs) zero h = ap (λ l. get_or l 0 false) (starts_cons ts d.left d.links x xs)
+starts_fold ts d (x ∷ xs) (suc i) h = ap (λ l. get_or l (suc i) false) (starts_cons ts d.left d.links x xs) ∙ starts_fold ts (fields_after ts d x) xs i (omega arith)
 
-pub starts_there : (ts : List Descriptor) (xs : List ℕ) (c : ℕ) → 0 < c → c < length xs → get_or (start_cells ts xs) c false ≡ (eqb (fold (fields_after ts) no_type (take (c - 1) (drop 1 xs))).size 0 && declared ts (get_or xs c 0))
+pub starts_there : (ts : List Descriptor) (xs : List ℕ) (c : ℕ) → 0 < c → c < length xs → get_or (start_cells ts xs) c false ≡ (eqb (fold (fields_after ts) no_fields (take (c - 1) (drop 1 xs))).left 0 && declared ts (get_or xs c 0))
 starts_there ts [] c p h = absurd (omega arith)
 starts_there ts (x ∷ xs) zero p h = absurd (omega arith)
-starts_there ts (x ∷ xs) (suc c) p h = let e : suc c - 1 ≡ c = omega arith in rw e (starts_fold ts no_type xs c (omega arith))
+starts_there ts (x ∷ xs) (suc c) p h = let e : suc c - 1 ≡ c = omega arith in rw e (starts_fold ts no_fields xs c (omega arith))
 
 pub or_nothing : (b : Bool) → b ≡ (b || false)
 or_nothing true = refl

@@ -3,6 +3,7 @@ use Rattle.std.specs.Prelude.{ℕ, ◌+◌, ◌-◌, ◌*◌, ◌/◌, ◌%◌, 
 use Rattle.page.specs.Descriptors.{declared, linked}
 use Rattle.page.specs.Walks.{kind_of, link_cells, start_cells}
 use Rattle.page.specs.declared.descriptor.Descriptor.{Descriptor}
+use Rattle.frame.specs.declared.walk.Fields.{Fields}
 
 -- f of the flagged elements, the others as they are
 abbrev pub map_where : (ℕ → ℕ) → List Bool → List ℕ → List ℕ
@@ -26,9 +27,12 @@ swizzled ts slots xs = map_where (address slots) (link_cells ts xs) xs
 abbrev pub unswizzled : List Descriptor → List ℕ → List ℕ → List ℕ
 unswizzled ts pages ys = map_where (pointer pages) (link_cells ts ys) ys
 
--- the fields still to come after the cell x, of the fields d before it; where there are none x is a header
-abbrev pub fields_after : List Descriptor → Descriptor → ℕ → Descriptor
-fields_after ts d x = cond (d.size == 0) (kind_of ts x) (record { size = d.size - 1; mask = d.mask / 2 })
+abbrev pub no_fields : Fields
+no_fields = record { left = 0; links = 0 }
+
+-- the fields still to come after the cell x, of the fields k before it; where there are none x is a header
+abbrev pub fields_after : List Descriptor → Fields → ℕ → Fields
+fields_after ts k x = cond (k.left == 0) (record { left = (kind_of ts x).size; links = (kind_of ts x).mask }) (record { left = k.left - 1; links = k.links / 2 })
 
 -- n is the number of a page that a set can have
 abbrev pub is_page : ℕ → Bool

@@ -34,6 +34,7 @@ pub fn cells_of(bytes: &[u8; 512]) -> [u64; 64]
 pub fn bytes_of(cells: &[u64; 64]) -> [u8; 512]
     ensures { result ≡ page_of cells.now }
 {
+    // by its number: after `chunks_mut` a proof knows no byte
     let mut bytes = [0; 512];
     for (i, number) in cells.iter().enumerate() {
         put_number(&mut bytes, i, *number);

@@ -1,43 +1,58 @@
-// A walk over the cells of a page by its headers. Cells and catalogue are given apart, as those who call hold them.
+// A walk over the cells of a page by its headers. Cells and catalogue are given apart: a pool holds the cells of its frames
+// beside its one catalogue, and would have to put the two together for each call.
 ghost use Rattle.std.specs.Prelude.{◌≡◌, ◌+◌, ◌-◌, ◌<◌, ◌≤◌, true, false, drop, take, nat_lt, ◌&&◌, slice_index_or};
 ghost use Rattle.std.specs.List.{fold};
-ghost use Rattle.page.specs.Descriptors.{no_type};
 ghost use Rattle.page.specs.Types.{types};
 ghost use Rattle.page.specs.Walks.{kind_of, odd, link_cells, start_cells};
-ghost use Rattle.frame.specs.Links.{has_field, fields_after};
+ghost use Rattle.frame.specs.Links.{has_field, no_fields, fields_after};
 
 use page::{ClosedCatalogue, Descriptor};
 
 // The last cell of a page.
 pub(crate) const LAST_CELL: u64 = 63;
 
-const NO_TYPE: Descriptor = Descriptor { size: 0, mask: 0 };
-
 // The type that a header names, of no fields where it names none.
 fn kind_of(catalogue: &ClosedCatalogue, header: u64) -> Descriptor
     ensures { result ≡ kind_of (types catalogue.now) header }
 {
-    catalogue.descriptor(header).unwrap_or(NO_TYPE)
+    catalogue.descriptor(header).unwrap_or_default()
 }
 
-// The fields of an object that are still to come after a cell; where none were, the cell is a header.
-fn fields_after(fields: Descriptor, number: u64, catalogue: &ClosedCatalogue) -> Descriptor
-    ensures { result ≡ fields_after (types catalogue.now) fields number }
-{
-    if fields.size == 0 {
-        return kind_of(catalogue, number);
-    }
-    Descriptor {
-        size: fields.size - 1,
-        mask: fields.mask / 2,
-    }
+// The fields of an object that are still to come: how many, and a mask whose bits say which are links, the next one's
+// lowest.
+#[derive(Clone, Copy, Default)]
+struct Fields {
+    left: u64,
+    links: u64,
 }
 
-// Whether the next cell is a field that is a link.
-fn link_next(fields: Descriptor) -> bool
-    ensures { result ≡ (nat_lt 0 fields.size && odd fields.mask) }
-{
-    fields.size > 0 && fields.mask % 2 == 1
+impl Fields {
+    // The head of a page, as a field that is no link.
+    const HEAD: Fields = Fields { left: 1, links: 0 };
+
+    // The fields that are still to come after a cell; where none were, the cell is a header.
+    fn after(self, number: u64, catalogue: &ClosedCatalogue) -> Fields
+        ensures { result ≡ fields_after (types catalogue.now) self number }
+    {
+        if self.left == 0 {
+            let kind = kind_of(catalogue, number);
+            return Fields {
+                left: kind.size,
+                links: kind.mask,
+            };
+        }
+        Fields {
+            left: self.left - 1,
+            links: self.links / 2,
+        }
+    }
+
+    // Whether the next cell is a field that is a link.
+    fn link_next(self) -> bool
+        ensures { result ≡ (nat_lt 0 self.left && odd self.links) }
+    {
+        self.left > 0 && self.links % 2 == 1
+    }
 }
 
 // For each cell, whether it is a link.
@@ -45,23 +60,24 @@ pub(crate) fn link_cells(cells: &[u64; 64], catalogue: &ClosedCatalogue) -> [boo
     ensures { result ≡ link_cells (types catalogue.now) cells.now }
 {
     let mut links = [false; 64];
-    // the head counts as a field that is no link
-    let mut fields = Descriptor { size: 1, mask: 0 };
+    let mut fields = Fields::HEAD;
     for (i, number) in cells.iter().enumerate() {
-        links[i] = link_next(fields);
-        fields = fields_after(fields, *number, catalogue);
+        links[i] = fields.link_next();
+        fields = fields.after(*number, catalogue);
     }
     links
 }
 
 // The fields that are still to come at a cell.
-fn fields_at(cells: &[u64; 64], catalogue: &ClosedCatalogue, cell: usize) -> Descriptor
+fn fields_at(cells: &[u64; 64], catalogue: &ClosedCatalogue, cell: usize) -> Fields
     requires { (0 < cell) × (cell ≤ 64) }
-    ensures { result ≡ fold (fields_after (types catalogue.now)) no_type (take (cell - 1) (drop 1 cells.now)) }
+    ensures { result ≡ fold (fields_after (types catalogue.now)) no_fields (take (cell - 1) (drop 1 cells.now)) }
 {
-    cells[1..cell].iter().fold(NO_TYPE, |fields, number| {
-        fields_after(fields, *number, catalogue)
-    })
+    cells[1..cell]
+        .iter()
+        .fold(Fields::default(), |fields, number| {
+            fields.after(*number, catalogue)
+        })
 }
 
 // Whether an object starts at the cell.
@@ -73,7 +89,7 @@ pub fn starts_at(cells: &[u64; 64], catalogue: &ClosedCatalogue, cell: u64) -> b
         return false;
     }
     let i = cell as usize;
-    fields_at(cells, catalogue, i).size == 0 && catalogue.descriptor(cells[i]).is_some()
+    fields_at(cells, catalogue, i).left == 0 && catalogue.descriptor(cells[i]).is_some()
 }
 
 // Whether an object starts at the cell and has the field.

@@ -17,7 +17,7 @@ loop-i-preserved c =
     let s = links_step ts bs xs i c.loop-i.fields (omega arith) was.2 in (
       length-set ls i _ ∙ was.0,
       (λ k h. ap (λ b. get_or (set ls i b) k false) (c.link_next.ensures ∙ sym s.0) ∙ fill_by_more (λ j. get_or bs j false) ls i false (omega arith) was.1 k h),
-      simp c.fields_after-fields.ensures s.1,
+      simp c.after-fields.ensures s.1,
     )
 
 pub returns : goal.returns

@@ -7,4 +7,4 @@ abbrev pub invariant-loop-i : goal.invariant-loop-i
 invariant-loop-i l =
     (length l.links ≡ 64)
     × ((k : ℕ) → k < l.i → get_or l.links k false ≡ get_or (link_cells (types l.catalogue) l.cells) k false)
-    × (drop l.i (link_cells (types l.catalogue) l.cells) ≡ links_from (types l.catalogue) l.fields.size l.fields.mask (drop l.i l.cells))
+    × (drop l.i (link_cells (types l.catalogue) l.cells) ≡ links_from (types l.catalogue) l.fields.left l.fields.links (drop l.i l.cells))
