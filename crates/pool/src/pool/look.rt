@@ -36,9 +36,7 @@ impl<S: Store, V: Policy> Pool<S, V> {
         ensures { (f : Frame) → StartsIn self.now k f cell → result ≡ kind_in self.now f cell }
     {
         let header = self.header(k, cell);
-        self.catalogue
-            .descriptor(header)
-            .unwrap_or(Descriptor { size: 0, mask: 0 })
+        self.catalogue.descriptor(header).unwrap_or_default()
     }
 
     // The header of the object that starts at the cell of the page in frame k, or 0, which no type has.
