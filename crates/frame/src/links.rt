@@ -6,12 +6,13 @@ ghost use Rattle.frame.specs.Links.{address, pointer, swizzled, unswizzled};
 
 use crate::walk::link_cells;
 use address::AddressTable;
-use page::ClosedCatalogue;
+use page::{ClosedCatalogue, Position};
 use std::array;
 
 // An address is this, 64 times the slot counted from 1, and the cell.
 const BASE: u64 = 1048512;
 
+// the last that a table has, as store's MOST_PAGES; frame does not stand on store
 const LAST_PAGE: u64 = 1024;
 
 const LAST_SLOT: u64 = 256;
@@ -30,8 +31,8 @@ fn to_address(table: &AddressTable, link: bool, number: u64) -> u64
     if !link || number == 0 {
         return number;
     }
+    let page = Position::from(number).page;
     // `u16::try_from` makes this twice as slow
-    let page = number / 64;
     let slot = if page <= LAST_PAGE {
         table.slot(page as u16)
     } else {
@@ -48,6 +49,7 @@ pub fn to_pointer(table: &AddressTable, link: bool, number: u64) -> u64
         return number;
     }
     let slot = number.saturating_sub(BASE) / 64;
+    // as in to_address
     let page = if slot <= LAST_SLOT {
         table.page(slot as u16)
     } else {

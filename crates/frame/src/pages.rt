@@ -8,7 +8,7 @@ ghost use Rattle.frame.specs.Links.{unswizzled, is_page};
 use crate::links::unswizzle;
 use crate::walk::link_cells;
 use address::AddressTable;
-use page::ClosedCatalogue;
+use page::{ClosedCatalogue, Position};
 use pageset::PageSet;
 
 // Puts the page that the number of a cell leads to into the set, if the cell is a link.
@@ -18,7 +18,7 @@ fn add_target(pages: &mut PageSet, link: bool, number: u64)
     if !link {
         return;
     }
-    if let Ok(page) = u16::try_from(number / 64) {
+    if let Ok(page) = u16::try_from(Position::from(number).page) {
         pages.add(page);
     }
 }
