@@ -61,20 +61,28 @@ impl fmt::Display for Misuse<'_> {
     }
 }
 
-impl StoreKind {
-    // An Option, no TryFrom: what is wrong is said with the option's name, which is not known here.
-    fn named(value: &str) -> Option<StoreKind> {
-        Some(match value {
+// The value names no store.
+#[derive(Clone, Copy, Debug, PartialEq, Eq)]
+pub(crate) struct NoStore;
+
+impl TryFrom<&str> for StoreKind {
+    type Error = NoStore;
+
+    fn try_from(value: &str) -> Result<StoreKind, NoStore> {
+        Ok(match value {
             "image" => StoreKind::Image,
             "frozen" => StoreKind::Frozen,
             "checks" => StoreKind::Checks,
-            _ => StoreKind::Split(number(value.strip_prefix("split:")?).ok()?),
+            _ => {
+                let first = value.strip_prefix("split:").ok_or(NoStore)?;
+                StoreKind::Split(number(first).map_err(|_| NoStore)?)
+            }
         })
     }
 }
 
 fn to_store<'a>(value: &'a str) -> Result<StoreKind, Misuse<'a>> {
-    StoreKind::named(value).ok_or(Misuse::BadValue {
+    StoreKind::try_from(value).map_err(|_| Misuse::BadValue {
         option: "--store",
         value,
     })
@@ -86,10 +94,7 @@ fn once<'a>(
     value: &'a str,
     twice: Misuse<'a>,
 ) -> Result<(), Misuse<'a>> {
-    match given.replace(value) {
-        None => Ok(()),
-        Some(_) => Err(twice),
-    }
+    given.replace(value).map_or(Ok(()), |_| Err(twice))
 }
 
 fn read_inspect<'a>(words: &'a [String]) -> Result<Command<'a>, Misuse<'a>> {
@@ -123,6 +128,7 @@ fn read_seal<'a>(words: &'a [String]) -> Result<Command<'a>, Misuse<'a>> {
     if first.starts_with("-") {
         return Err(Misuse::UnknownOption(first));
     }
+    // a match, no map_or: the check does not follow what a closure would lend here
     match rest.first() {
         None => Ok(Command::Seal(first)),
         Some(extra) => Err(Misuse::Extra(extra.as_str())),

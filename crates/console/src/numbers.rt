@@ -50,6 +50,7 @@ pub(crate) fn numbers<'a, const N: usize>(
         let word = words.next().ok_or(Mistake::TooFew { wanted: N, found })?;
         *slot = number(word)?;
     }
+    // a match, no map_or: the check does not follow what `words` lends through it
     match words.next() {
         None => Ok(all),
         Some(_) => Err(Mistake::TooMany { wanted: N }),

@@ -1,5 +1,5 @@
 // The whole program over what it is given, so that a test can run it: `main` only passes the process's own.
-use crate::catalogue::declare_lines;
+use crate::catalogue::{BadLine, declare_lines};
 use crate::command::{Command, Inspect, Misuse, StoreKind, read_command};
 use crate::files::{is_symlink, replace};
 use crate::inspect::{Types, inspect_store};
@@ -65,11 +65,8 @@ enum Failure<'a> {
     Misuse(Misuse<'a>),
     Unread { path: &'a str, why: io::Error },
     Unwritten { path: &'a str, why: io::Error },
-    // the line, and what is wrong with it
-    Types { path: &'a str, why: String },
+    Types { path: &'a str, why: BadLine<'a> },
     Symlink(&'a str),
-    // what there was to say could not be written
-    Stream(io::Error),
 }
 
 impl fmt::Display for Failure<'_> {
@@ -82,14 +79,26 @@ impl fmt::Display for Failure<'_> {
             Failure::Symlink(path) => {
                 write!(f, "{path} is a symbolic link; name the file itself")
             }
-            Failure::Stream(why) => write!(f, "{why}"),
         }
     }
 }
 
-impl From<io::Error> for Failure<'_> {
+// What stops a command: a failure that is to be said, or a stream that does not take what is said.
+#[derive(Drop)]
+enum Stop<'a> {
+    Failure(Failure<'a>),
+    Stream(io::Error),
+}
+
+impl<'a> From<Failure<'a>> for Stop<'a> {
+    fn from(failure: Failure<'a>) -> Self {
+        Stop::Failure(failure)
+    }
+}
+
+impl From<io::Error> for Stop<'_> {
     fn from(why: io::Error) -> Self {
-        Failure::Stream(why)
+        Stop::Stream(why)
     }
 }
 
@@ -97,16 +106,15 @@ fn read_file<'a, R: Files + AllocGlobal>(rt: &R, path: &'a str) -> Result<Vec<u8
     fs::read(rt, path).map_err(|why| Failure::Unread { path, why })
 }
 
+// The types of a file. Its text stays with the caller, as a bad line is said by the text's own words.
 fn file_types<'a, R: Files + AllocGlobal>(
     rt: &R,
     path: &'a str,
+    text: &'a mut String,
 ) -> Result<Types<'static>, Failure<'a>> {
-    let text = fs::read_to_string(rt, path).map_err(|why| Failure::Unread { path, why })?;
+    *text = fs::read_to_string(rt, path).map_err(|why| Failure::Unread { path, why })?;
     let mut catalogue = DeclaringCatalogue::new();
-    if let Err(bad) = declare_lines(&mut catalogue, text.as_str()) {
-        let why = format!(in rt.alloc(); "{bad}").map_err(io::Error::from)?;
-        return Err(Failure::Types { path, why });
-    }
+    declare_lines(&mut catalogue, text.as_str()).map_err(|why| Failure::Types { path, why })?;
     Ok(Types {
         catalogue: catalogue.close(),
         names: &[],
@@ -167,14 +175,15 @@ fn inspect_bytes<W: Write>(
 fn inspect<'a, R: Files + AllocGlobal, O: Write + Drop>(
     rt: &R,
     asked: Inspect<'a>,
+    text: &'a mut String,
     out: &mut BufWriter<O>,
-) -> Result<(), Failure<'a>> {
+) -> Result<(), Stop<'a>> {
     let types = match asked.catalogue {
         None => Types {
             catalogue: studio_catalogue(),
             names: STUDIO,
         },
-        Some(path) => file_types(rt, path)?,
+        Some(path) => file_types(rt, path, text)?,
     };
     let mut bytes = read_file(rt, asked.pages)?;
     let totals = inspect_bytes(bytes.as_mut_slice(), asked.store, &types, out)?;
@@ -188,12 +197,12 @@ fn seal<'a, R: Files + AllocGlobal, O: Write + Drop>(
     rt: &R,
     path: &'a str,
     out: &mut BufWriter<O>,
-) -> Result<(), Failure<'a>> {
+) -> Result<(), Stop<'a>> {
     let mut bytes = read_file(rt, path)?;
     let changed = Checks::new(Image::new(bytes.as_mut_slice())).seal();
     if changed > 0 {
         if is_symlink(rt, path) {
-            return Err(Failure::Symlink(path));
+            return Err(Failure::Symlink(path).into());
         }
         replace(rt, rt.alloc(), path, bytes.as_slice()).map_err(|why| Failure::Unwritten {
             path,
@@ -207,11 +216,12 @@ fn seal<'a, R: Files + AllocGlobal, O: Write + Drop>(
 fn run<'a, R: Files + AllocGlobal, O: Write + Drop>(
     rt: &R,
     words: &'a [String],
+    text: &'a mut String,
     out: &mut BufWriter<O>,
-) -> Result<(), Failure<'a>> {
+) -> Result<(), Stop<'a>> {
     match read_command(words).map_err(Failure::Misuse)? {
         Command::Help => writeln!(out, "{HELP}")?,
-        Command::Inspect(asked) => inspect(rt, asked, out)?,
+        Command::Inspect(asked) => inspect(rt, asked, text, out)?,
         Command::Seal(path) => seal(rt, path, out)?,
     }
     out.flush()?;
@@ -225,10 +235,11 @@ pub fn start<R: Files + AllocGlobal, O: Write + Drop, E: Write>(
     out: &mut BufWriter<O>,
     err: &mut E,
 ) -> io::Result<Ending> {
-    match run(rt, words, out) {
+    let mut text = String::new(rt.alloc());
+    match run(rt, words, &mut text, out) {
         Ok(()) => Ok(Ending::Done),
-        Err(Failure::Stream(why)) => Err(why),
-        Err(failure) => {
+        Err(Stop::Stream(why)) => Err(why),
+        Err(Stop::Failure(failure)) => {
             writeln!(err, "balunsep: {failure}")?;
             Ok(Ending::Failed)
         }
