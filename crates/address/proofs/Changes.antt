@@ -1,7 +1,7 @@
 -- What one change of a pair leaves. Assumes nothing.
-use Rattle.address.specs.Pairing.{Sound}
+use Rattle.address.specs.Pairing.{Sound, owned}
 use Rattle.address.specs.declared.table.AddressTable.{AddressTable}
 
 -- all that a table keeps
-pub sound : (t : AddressTable) → Sound t.page_of t.slot_of t.slots t.used
+pub sound : (t : AddressTable) → Sound t.page_of t.slot_of t.slots (owned t.page_of)
 sound t = record { agree = t.agree; within = t.within; counted = t.counted; sized = t.sized }

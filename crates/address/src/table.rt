@@ -1,7 +1,7 @@
 // Slots and pages, one to one. Inside the table slots and pages are counted from 1, and 0 is none.
 ghost use Rattle.std.specs.Prelude.{◌≡◌, ℕ, ◌+◌, ◌<◌, ◌≤◌, min, true, length, replicate, position, MatchOption, slice_index, slice_index_or, slice_set};
 ghost use Rattle.pageset.specs.Sets.{holds, tally};
-ghost use Rattle.address.specs.Pairing.{Agree, Within, Counted, Only, All, entry, free};
+ghost use Rattle.address.specs.Pairing.{Agree, Within, Counted, Only, All, entry, free, owned};
 ghost use Rattle.address.specs.Listing.{Listed};
 
 use pageset::PageSet;
@@ -13,11 +13,10 @@ pub struct AddressTable {
     page_of: [u16; 257],
     slot_of: [u16; 1025],
     slots: u16,
-    used: u16,
     owners: PageSet,
     ghost agree: { Agree page_of slot_of },
     ghost within: { Within page_of slot_of slots },
-    ghost counted: { Counted page_of slot_of used },
+    ghost counted: { Counted page_of slot_of (owned page_of) },
     ghost sized: { (length page_of ≡ 257) × (length slot_of ≡ 1025) },
     ghost listed: { Listed (holds owners.words) slot_of },
 }
@@ -49,7 +48,6 @@ impl AddressTable {
             page_of: [0; 257],
             slot_of: [0; 1025],
             slots: slots.min(256),
-            used: 0,
             owners: PageSet::new(),
         }
     }
@@ -84,7 +82,6 @@ impl AddressTable {
         let slot = self.slot_of[page as usize];
         self.page_of[slot as usize] = 0;
         self.slot_of[page as usize] = 0;
-        self.used -= 1;
         self.owners.remove(page);
     }
 
@@ -98,7 +95,6 @@ impl AddressTable {
     {
         self.page_of[slot as usize] = page;
         self.slot_of[page as usize] = slot;
-        self.used += 1;
         self.owners.add(page);
     }
 

@@ -3,6 +3,7 @@ use lib.ListN.{length-replicate}
 use Rattle.std.proofs.lemmas.Result.{err_from_is_err_and}
 use Rattle.fault.specs.Refusals.{Checked}
 use Rattle.pageset.specs.Sets.{holds}
+use Rattle.address.specs.Pairing.{owned}
 use Rattle.page.specs.Types.{types}
 use Rattle.store.specs.Pages.{Page}
 use Rattle.store.specs.Rules.{read_buffer}
@@ -19,7 +20,7 @@ returns-in-Some-clause-opened g c page stand =
     let s = c.args.self.now in
     let t = s.table in
     let w = found_at s.frames c.args.n c.in-Some.held (sym c.find.ensures ∙ c.in-Some.is) in
-    resident_opened (types s.catalogue) t.slots t.used t.slot_of t.page_of (g.S.Store.pages s.store) s.frames s.pages (g.V.Policy.frames s.policy) s.count (holds c.args.standing.now.words) c.args.n c.in-Some.held w.0
+    resident_opened (types s.catalogue) t.slots (owned t.page_of) t.slot_of t.page_of (g.S.Store.pages s.store) s.frames s.pages (g.V.Policy.frames s.policy) s.count (holds c.args.standing.now.words) c.args.n c.in-Some.held w.0
     s.tied (record { agree = t.agree; within = t.within; counted = t.counted; sized = t.sized }) s.covered stand w.1.0 w.1.1
 
 pub returns-in-Some-clause-course : goal.returns-in-Some-clause-course
