@@ -49,10 +49,7 @@ impl PageSet {
     pub fn has(&self, page: u16) -> bool
         ensures { result ≡ holds self.now.words page }
     {
-        let Some((word, bit)) = place(page) else {
-            return false;
-        };
-        (self.words[word] >> bit) % 2 == 1
+        place(page).is_some_and(|(word, bit)| (self.words[word] >> bit) % 2 == 1)
     }
 
     // Puts a page into the set. Passes over 0 and numbers above 1024.
