@@ -67,6 +67,7 @@ impl<'a, 'k> Page<'a, 'k> {
         requires { used ≤ 63 }
         ensures { result ≡ unused_fault self.now.number self.now.bytes.now (used + 1) (63 - used) }
     {
+        // Tried as a `map_or`: it is no plainer, and its proof did not close.
         if let Some(cell) = (used + 1..64).find(|&cell| self.cell_at(cell) != 0) {
             return Err(self.fault(Cause::NotZero, cell));
         }
