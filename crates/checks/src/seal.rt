@@ -12,6 +12,7 @@ use store::{PAGE_BYTES, Store};
 
 impl<S: Store> Checks<S> {
     // The bytes of page `at` below with the check of page n, if it can be set there and is another.
+    // The two numbers stand apart: `at` follows from n and the pages below, so a type for both would hold no more.
     fn renewed(&mut self, n: u64, at: u64) -> Option<[u8; PAGE_BYTES]>
         requires { 0 < n }
         ensures value { result ≡ renewed_bytes S.Store.layer (S.Store.pages self.old.lower) n at }

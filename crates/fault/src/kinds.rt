@@ -33,7 +33,7 @@ pub struct Place {
     pub field: u64,
 }
 
-// A refusal. The cause is a number, since a store of another kind has causes of its own.
+// A refusal. Cause and layer are numbers, since a store of another kind has causes and a layer of its own.
 #[derive(Clone, Copy, Debug, PartialEq, Eq)]
 pub struct Fault {
     pub cause: u32,
