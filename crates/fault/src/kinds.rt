@@ -39,6 +39,6 @@ pub struct Fault {
     pub cause: u32,
     pub layer: u32,
     pub place: Place,
-    // the link by which the call came there
+    // the link by which the call came there; no Option, since a refusal is fixed to be eight numbers
     pub link: Place,
 }

@@ -31,7 +31,8 @@ impl<S: Store, V: Policy> Pool<S, V> {
             .is_some_and(|frame| starts_at(&frame.cells, &self.catalogue, cell))
     }
 
-    // The type of the object that starts at the cell of the page in frame k, of no fields where none starts there.
+    // The type of the object that starts at the cell of the page in frame k. No call here can be refused, so none answers
+    // an option: this one answers a type of no fields where the cell's number is no type.
     pub fn kind(&self, k: usize, cell: u64) -> Descriptor
         ensures { (f : Frame) → StartsIn self.now k f cell → result ≡ kind_in self.now f cell }
     {
@@ -39,7 +40,8 @@ impl<S: Store, V: Policy> Pool<S, V> {
         self.catalogue.descriptor(header).unwrap_or_default()
     }
 
-    // The header of the object that starts at the cell of the page in frame k, or 0, which no type has.
+    // The number in the cell of the page in frame k: the header, if an object starts there, and 0, which no type has, where
+    // there is no such frame or cell.
     fn header(&self, k: usize, cell: u64) -> u64
         ensures { (f : Frame) → StartsIn self.now k f cell → (result ≡ cell_at (long_of self.now f) cell) × (declared (types self.now.catalogue) result ≡ true) }
     {
@@ -61,7 +63,7 @@ impl<S: Store, V: Policy> Pool<S, V> {
     }
 
     // What stands in a field of the object that starts at the cell of the page in frame k: a number, or the address of
-    // its link. This call and the next can't be refused: they answer 0 where there is no such field.
+    // its link. This call and the next can't be refused: they answer 0 where there is no such frame or cell.
     pub fn field(&self, k: usize, cell: u64, field: u64) -> u64
         ensures { (f : Frame) → StartsIn self.now k f cell → field < (kind_in self.now f cell).size → result ≡ field_shown (types self.now.catalogue) self.now.table.slot_of (long_of self.now f) cell field }
     {
