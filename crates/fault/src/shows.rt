@@ -1,16 +1,17 @@
 // A cause in words, and a fault as text: its eight numbers.
-ghost use Rattle.std.specs.Prelude.{Some};
+ghost use Rattle.std.specs.Prelude.{◌≡◌, Some};
 ghost use Rattle.fault.specs.Causes.{wording};
 ghost use Rattle.fault.specs.Texts.{place_text, fault_text};
 
 use crate::kinds::{Cause, Fault, Place};
 use std::fmt;
 
-impl fmt::Display for Cause {
-    ghost output = { λ c. Some (wording c) };
-
-    fn fmt<W: fmt::Write>(&self, f: &mut fmt::Formatter<W>) -> fmt::Result {
-        f.write_str(match self {
+impl Cause {
+    // The cause in words, for a person.
+    pub fn words(self) -> &'static str
+        ensures { result.now ≡ wording self }
+    {
+        match self {
             Cause::BadPlan => "the plan is not allowed",
             Cause::CatalogueFull => "the catalogue has 32 types",
             Cause::FieldCount => "a type has 1 to 62 fields",
@@ -33,7 +34,15 @@ impl fmt::Display for Cause {
             Cause::NoRoom => "the page has no room",
             Cause::NoType => "the type is not declared",
             Cause::WrongLength => "a page has 512 bytes",
-        })
+        }
+    }
+}
+
+impl fmt::Display for Cause {
+    ghost output = { λ c. Some (wording c) };
+
+    fn fmt<W: fmt::Write>(&self, f: &mut fmt::Formatter<W>) -> fmt::Result {
+        f.write_str(self.words())
     }
 }
 
