@@ -106,15 +106,20 @@ fn read_file<'a, R: Files + AllocGlobal>(rt: &R, path: &'a str) -> Result<Vec<u8
     fs::read(rt, path).map_err(|why| Failure::Unread { path, why })
 }
 
-// The types of a file. Its text stays with the caller, as a bad line is said by the text's own words.
+// The types of a file. Its text goes before the pages are read. Only where a line is bad does it stay with the caller, as
+// the line is said by the text's own words; it is looked for again there.
 fn file_types<'a, R: Files + AllocGlobal>(
     rt: &R,
     path: &'a str,
     text: &'a mut String,
 ) -> Result<Types<'static>, Failure<'a>> {
-    *text = fs::read_to_string(rt, path).map_err(|why| Failure::Unread { path, why })?;
+    let read = fs::read_to_string(rt, path).map_err(|why| Failure::Unread { path, why })?;
     let mut catalogue = DeclaringCatalogue::new();
-    declare_lines(&mut catalogue, text.as_str()).map_err(|why| Failure::Types { path, why })?;
+    if declare_lines(&mut catalogue, read.as_str()).is_err() {
+        *text = read;
+        catalogue = DeclaringCatalogue::new();
+        declare_lines(&mut catalogue, text.as_str()).map_err(|why| Failure::Types { path, why })?;
+    }
     Ok(Types {
         catalogue: catalogue.close(),
         names: &[],
