@@ -28,16 +28,15 @@ impl Table {
         &self.descriptors[..self.count as usize]
     }
 
-    // The table with one type more.
+    // Adds a type, in place: a table that is handed on whole is copied at each type.
     #[tactic(auto, using(crate::proofs::Declares::all_more))]
-    fn with(mut self, descriptor: Descriptor) -> Table
-        requires count_bound { self.count < 32 }
+    fn add(&mut self, descriptor: Descriptor)
+        requires count_bound { self.old.count < 32 }
         requires good { Good descriptor }
-        ensures { listed result ≡ listed self ++ descriptor ∷ [] }
+        ensures { listed self.new ≡ listed self.old ++ descriptor ∷ [] }
     {
         self.descriptors[self.count as usize] = descriptor;
         self.count += 1;
-        self
     }
 }
 
@@ -66,7 +65,7 @@ impl DeclaringCatalogue {
         if mask >> size != 0 {
             return Err(Fault::new(Cause::LinkMask, LAYER, Place::nowhere()));
         }
-        self.table = self.table.with(Descriptor { size, mask });
+        self.table.add(Descriptor { size, mask });
         Ok(count + 1)
     }
 

@@ -39,6 +39,7 @@ impl<'a, 'k> Reader<'a, 'k> {
     }
 
     // The next part; none for ever after the last, and a fault again for ever, so a reader is no iterator that ends.
+    #[inline]
     pub fn step(&mut self) -> Option<Result<Part<'a>, Fault>>
         ensures part { seen result ≡ next_part (remaining self.old) }
         ensures after { remaining self.new ≡ after_next (remaining self.old) }
