@@ -294,14 +294,14 @@ module _ (ps ws : List Page) (s : Sealed ps ws) where
 
 -- a turn of the loop
 
-at_most_one : (t : Bool) → cond t 1 0 ≤ 1
+pub at_most_one : (t : Bool) → cond t 1 0 ≤ 1
 at_most_one true = omega arith
 at_most_one false = omega arith
 
-record Turned (ps ws vs : List Page) (n r : ℕ) : Type 0 where
-  page : vs ≡ seal_page ws n
-  count : r ≡ cond (stale ps n) 1 0
-  more : SealedBefore ps vs (n + 1)
+pub record Turned (ps ws vs : List Page) (n r : ℕ) : Type 0 where
+  pub page : vs ≡ seal_page ws n
+  pub count : r ≡ cond (stale ps n) 1 0
+  pub more : SealedBefore ps vs (n + 1)
 
 module _ (layer : ℕ) (ps ws : List Page) (n at : ℕ) (z : 0 < n) (l : n ≤ checked_count (length ps)) (e : at ≡ check_page (length ps) n)
     (s : SealedBefore ps ws n) (whole : (k : ℕ) → Whole (page_at ws k).content) where
@@ -319,7 +319,7 @@ module _ (layer : ℕ) (ps ws : List Page) (n at : ℕ) (z : 0 < n) (l : n ≤ c
       let r = (settable_parts ws n (stale_settable ws n f)).0 in
       omega (arith, h, ap check (held_any (page_at ws n).content r))
 
-  turned : (vs : List Page) (r : ℕ) → vs ≡ seal_pages layer ws n at → r ≡ seal_answer layer ws n at
+  pub turned : (vs : List Page) (r : ℕ) → vs ≡ seal_pages layer ws n at → r ≡ seal_answer layer ws n at
       → (stale_answer layer ws n at ≡ true → check (read_buffer ws n blank) < 2 ^ 64) → Turned ps ws vs n r
   turned vs r v c small =
       let page : vs ≡ seal_page ws n = v ∙ ap (seal_pages layer ws n) at_here ∙ seal_is layer ws n inside whole in

@@ -21,5 +21,5 @@ weighted_few k m (b ∷ bs) small w =
     let more : (1 + length bs) * (m * 256) ≡ m * 256 + length bs * (m * 256) = omega arith in
     omega (arith, here, more, weighted_few (k + 1) m bs (λ i. small (suc i)) (omega (arith, w)))
 
-pub shares_few : (bs : List ℕ) → ((i : ℕ) → get_or bs i 0 < 256) → length bs ≤ 512 → sum_by share (enumerate_from 0 bs) < 2 ^ 64
+pub shares_few : (bs : List ℕ) → ((i : ℕ) → get_or bs i 0 < 256) → length bs ≤ 512 → sum_by share (enumerate_from 0 bs) < 2 ^ 32
 shares_few bs small w = omega (arith, shares 0 bs, weighted_few 1 513 bs small (omega (arith, w)), w)

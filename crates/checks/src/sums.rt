@@ -7,11 +7,11 @@ use fault::Fault;
 use page::cell;
 
 // What byte i adds to the check.
-fn share(i: usize, byte: u8) -> u64
+fn share(i: usize, byte: u8) -> u32
     requires { i < 512 }
     ensures { result ≡ (i + 1) * byte }
 {
-    (i as u64 + 1) * byte as u64
+    (i as u32 + 1) * u32::from(byte)
 }
 
 // The sum of i + 1 times byte i.
@@ -19,11 +19,13 @@ pub(super) fn weigh(bytes: &[u8]) -> u64
     requires { length bytes.now ≤ 512 }
     ensures { result ≡ check bytes.now }
 {
-    bytes
+    // in 32 bits, of which a processor takes several at once
+    let sum: u32 = bytes
         .iter()
         .enumerate()
         .map(|(i, byte)| share(i, *byte))
-        .sum()
+        .sum();
+    u64::from(sum)
 }
 
 // How many pages the layer has over `below` pages: one page of checks stands above each 64.
