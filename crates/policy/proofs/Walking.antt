@@ -122,11 +122,11 @@ second_part occ ts f next =
     rw same (ap (λ ks. walk occ f ks ts) (sym (append-nil (span 0 next))))
 
 -- of the second part
-chance_sooner : (occ ts ts' ts'' : List Bool) (f next r : ℕ) → r < f → walk occ f (span next (f - next) ++ span 0 next) ts ≡ walk occ f (span 0 next) ts' → walk occ f (span 0 (next - 0) ++ []) ts' ≡ came r ts'' → (r ≡ chance_taken occ ts f next) × (ts'' ≡ chance_left occ ts f next)
+pub chance_sooner : (occ ts ts' ts'' : List Bool) (f next r : ℕ) → r < f → walk occ f (span next (f - next) ++ span 0 next) ts ≡ walk occ f (span 0 next) ts' → walk occ f (span 0 (next - 0) ++ []) ts' ≡ came r ts'' → (r ≡ chance_taken occ ts f next) × (ts'' ≡ chance_left occ ts f next)
 chance_sooner occ ts ts' ts'' f next r l d e = chance_later occ ts ts'' f next r l (d ∙ second_part occ ts' f next ∙ e)
 
 -- or none
-chance_none : (occ ts ts' ts'' : List Bool) (f next r : ℕ) → walk occ f (span next (f - next) ++ span 0 next) ts ≡ walk occ f (span 0 next) ts' → walk occ f (span 0 (next - 0) ++ []) ts' ≡ walk occ f [] ts'' → r ≡ round_taken occ f next → (r ≡ chance_taken occ ts f next) × (ts'' ≡ chance_left occ ts f next)
+pub chance_none : (occ ts ts' ts'' : List Bool) (f next r : ℕ) → walk occ f (span next (f - next) ++ span 0 next) ts ≡ walk occ f (span 0 next) ts' → walk occ f (span 0 (next - 0) ++ []) ts' ≡ walk occ f [] ts'' → r ≡ round_taken occ f next → (r ≡ chance_taken occ ts f next) × (ts'' ≡ chance_left occ ts f next)
 unfolding walk around first_round chance_taken chance_left
 chance_none occ ts ts' ts'' f next r d e t =
     let went = d ∙ second_part occ ts' f next ∙ e in
