@@ -22,8 +22,21 @@ leads_past : (n x : ℕ) → 1024 < n → (leads n x && is_page n) ≡ false
 leads_past n x h = grind (arith, nat_tests)
 
 -- the page of x is put into the set v, which is then w
-pub put_page : (v w : List ℕ) (x n : ℕ) → length v ≡ 16 → length w ≡ 16 → (0 < x / 64 → x / 64 ≤ 1024 → holds w (x / 64) ≡ true) → ((m : ℕ) → (m ≡ x / 64 → ⊥) → holds w m ≡ holds v m) → holds w n ≡ (holds v n || (leads n x && is_page n))
-put_page v w x n vl wl added others =
+pub put_page : (v w : List ℕ) (x n : ℕ) → x / 64 ≤ 1024 → (0 < x / 64 → x / 64 ≤ 1024 → holds w (x / 64) ≡ true) → ((m : ℕ) → (m ≡ x / 64 → ⊥) → holds w m ≡ holds v m) → holds w n ≡ (holds v n || (leads n x && is_page n))
+put_page v w x n h added others =
+    ⊎_elim
+    (λ (e : n ≡ x / 64). ⊎_elim
+    (λ (l : 0 < n). ap (holds w) e ∙ added (omega arith) h ∙ sym (or_right (holds v n) _ (leads_there n x e l (omega arith))))
+    (λ (l : n ≤ 0).
+    let z : n ≡ 0 = omega arith in
+    ap (holds w) z ∙ holds_zero w ∙ sym (ap (holds v) z ∙ holds_zero v) ∙ or_none (holds v n) _ (leads_elsewhere n x (inr z)))
+    (cases_lt 0 n))
+    (λ (p : n ≡ x / 64 → ⊥). others n p ∙ or_none (holds v n) _ (leads_elsewhere n x (inl p)))
+    (cases_eq n (x / 64))
+
+-- the same for any number, in sets of sixteen words
+pub put_any : (v w : List ℕ) (x n : ℕ) → length v ≡ 16 → length w ≡ 16 → (0 < x / 64 → x / 64 ≤ 1024 → holds w (x / 64) ≡ true) → ((m : ℕ) → (m ≡ x / 64 → ⊥) → holds w m ≡ holds v m) → holds w n ≡ (holds v n || (leads n x && is_page n))
+put_any v w x n vl wl added others =
     ⊎_elim
     (λ (e : n ≡ x / 64). ⊎_elim
     (λ (l : 0 < n). ⊎_elim

@@ -13,7 +13,7 @@ use std::array;
 const BASE: u64 = 1048512;
 
 // the last that a table has, as store's MOST_PAGES; frame does not stand on store
-const LAST_PAGE: u64 = 1024;
+pub(crate) const LAST_PAGE: u64 = 1024;
 
 const LAST_SLOT: u64 = 256;
 

@@ -5,7 +5,7 @@ ghost use Rattle.page.specs.Walks.{leads, links_to};
 ghost use Rattle.pageset.specs.Sets.{holds};
 ghost use Rattle.frame.specs.Links.{unswizzled, is_page};
 
-use crate::links::unswizzle;
+use crate::links::{LAST_PAGE, to_pointer};
 use crate::walk::link_cells;
 use address::AddressTable;
 use page::{ClosedCatalogue, Position};
@@ -15,11 +15,10 @@ use pageset::PageSet;
 fn add_target(pages: &mut PageSet, link: bool, number: u64)
     ensures { (n : ℕ) → holds pages.new.words n ≡ (holds pages.old.words n || ((link && leads n number) && is_page n)) }
 {
-    if !link {
-        return;
-    }
-    if let Ok(page) = u16::try_from(Position::from(number).page) {
-        pages.add(page);
+    let page = Position::from(number).page;
+    // as in to_address
+    if link && page <= LAST_PAGE {
+        pages.add(page as u16);
     }
 }
 
@@ -39,5 +38,11 @@ pub fn linked_pages(cells: &[u64; 64], catalogue: &ClosedCatalogue) -> PageSet
 pub fn framed_pages(cells: &[u64; 64], table: &AddressTable, catalogue: &ClosedCatalogue) -> PageSet
     ensures { (n : ℕ) → holds result.words n ≡ (links_to (types catalogue.now) (unswizzled (types catalogue.now) table.now.page_of cells.now) n && is_page n) }
 {
-    linked_pages(&unswizzle(cells, table, catalogue), catalogue)
+    // not the linked pages of the page of the store: its links are where these are, and would be found twice
+    let links = link_cells(cells, catalogue);
+    let mut pages = PageSet::new();
+    for (link, number) in links.iter().zip(cells) {
+        add_target(&mut pages, *link, to_pointer(table, *link, *number));
+    }
+    pages
 }

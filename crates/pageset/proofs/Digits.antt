@@ -1,9 +1,10 @@
 -- The bits of a word. Assumes nothing.
-use Rattle.std.proofs.Common.{◌≡◌, ℕ, zero, suc, ◌+◌, ◌-◌, ◌/◌, ◌%◌, ◌^◌, ◌<◌, ◌≤◌, Bool, true, false, cond, not, ◌&&◌, ◌||◌, eqb, ◌≢◌, sym, refl, add-one, one-add, ap, ◌*◌, min, max, w64, arith}
-use lib.Bits.{bit_or, bit_and}
+use Rattle.std.proofs.Common.{◌≡◌, ℕ, zero, suc, ◌+◌, ◌-◌, ◌/◌, ◌%◌, ◌^◌, ◌<◌, ◌≤◌, Bool, true, false, cond, not, ◌&&◌, ◌||◌, eqb, ◌≢◌, sym, refl, add-one, one-add, ap, ◌*◌, min, max, ⊎_elim, ◌∙◌, w64, arith}
+use lib.Bits.{bit_or, bit_xor, bit_and}
 use lib.Count.{ones, count_trailing_zeros, ones_step}
-use Rattle.std.proofs.lemmas.Nat.{shr-shr, shr_below, and_le_l}
-use Rattle.std.proofs.lemmas.Nat.Bits.{bit_at_and, bit_at_or, bit_at_not, bit_at_set_same, bit_at_set_other, bit_at_clear_same, bit_at_clear_other, bit_at-zero, bit_at_above, bit_at-trailing_zeros}
+use Rattle.std.proofs.lemmas.Nat.{shr-shr, xor_shr, xor_mod, xor_lt, and_shr, and_mod, shr_below, and_le_l}
+use Rattle.std.proofs.lemmas.Nat.Bits.{bit_at_and, bit_at_or, bit_at_not, bit_at_set_same, bit_at_set_other, bit_at_clear_same, bit_at_clear_other, bit_at-zero, bit_at_above}
+use Rattle.std.proofs.lemmas.Bool.{cases_eq}
 use Rattle.std.proofs.lemmas.Bool.Decides.{nat_tests}
 use Rattle.pageset.specs.Sets.{bit, used}
 
@@ -102,14 +103,27 @@ pub without_other : (w j k : ℕ) → j < 64 → k < 64 → k ≢ j → bit (wit
 unfolding bit
 without_other w j k h l d = ap (λ b. eqb b 1) (bit_at_clear_other w64 w j h k l d)
 
--- the lowest bit that is set, and those below it
-pub tz_hit : (w : ℕ) → 0 < w → w < 2 ^ 64 → bit w (count_trailing_zeros 64 w) ≡ true
-unfolding bit
-tz_hit w p h = ap (λ b. eqb b 1) (bit_at-trailing_zeros w64 w p h).1
+-- the bits below the lowest that is set
+pub tz_low : (d w k : ℕ) → k < count_trailing_zeros d w → bit w k ≡ false
+unfolding count_trailing_zeros
+tz_low zero w k h = absurd (omega arith)
+tz_low (suc d) w k h = ⊎_elim
+    (λ (e : w % 2 ≡ 0). low (tz_low d (w / 2)) k e (rw e at h))
+    (λ (n : w % 2 ≢ 0). let e : w % 2 ≡ 1 = omega arith in absurd (omega (arith, rw e at h)))
+    (cases_eq (w % 2) 0)
+  where
+    low : ((k : ℕ) → k < count_trailing_zeros d (w / 2) → bit (w / 2) k ≡ false) → (k : ℕ) → w % 2 ≡ 0 → k < suc (count_trailing_zeros d (w / 2)) → bit w k ≡ false
+    low back zero e h = bit_first w ∙ rw e refl
+    low back (suc k) e h = bit_suc w k ∙ back k (omega arith)
 
-pub tz_low : (w k : ℕ) → 0 < w → w < 2 ^ 64 → k < count_trailing_zeros 64 w → bit w k ≡ false
-unfolding bit
-tz_low w k p h l = ap (λ b. eqb b 1) ((bit_at-trailing_zeros w64 w p h).2 k l)
+-- and the lowest that is set
+pub tz_hit : (d w : ℕ) → 0 < w → w < 2 ^ d → bit w (count_trailing_zeros d w) ≡ true
+unfolding count_trailing_zeros
+tz_hit zero w p h = absurd (omega arith)
+tz_hit (suc d) w p h = ⊎_elim
+    (λ (e : w % 2 ≡ 0). rw e (bit_suc w (count_trailing_zeros d (w / 2)) ∙ tz_hit d (w / 2) (omega arith) (half d w h)))
+    (λ (n : w % 2 ≢ 0). let e : w % 2 ≡ 1 = omega arith in rw e (bit_first w ∙ rw e refl))
+    (cases_eq (w % 2) 0)
 
 -- the bits of one word that are not in another
 one_less : (x y : ℕ) → x < 2 → y < 2 → eqb (min x (1 - y)) 1 ≡ (eqb x 1 && not (eqb y 1))
@@ -125,14 +139,33 @@ one_less (suc zero) (suc (suc y)) p q = absurd (omega arith)
 abbrev pub less : ℕ → ℕ → ℕ
 less v w = bit_and v (18446744073709551615 - w)
 
-pub bit_less : (v w k : ℕ) → w < 2 ^ 64 → k < 64 → bit (less v w) k ≡ (bit v k && not (bit w k))
+pub bit_minus : (v w k : ℕ) → w < 2 ^ 64 → k < 64 → bit (less v w) k ≡ (bit v k && not (bit w k))
 unfolding bit
-bit_less v w k h l =
+bit_minus v w k h l =
     rw (bit_at_and v (18446744073709551615 - w) k, bit_at_not w64 w k h l)
     (one_less (v / 2 ^ k % 2) (w / 2 ^ k % 2) (omega arith) (omega arith))
 
-pub less_lt : (v w : ℕ) → v < 2 ^ 64 → w < 2 ^ 64 → less v w < 2 ^ 64
-less_lt v w h l = omega (arith, and_le_l v (18446744073709551615 - w))
+pub minus_lt : (v w : ℕ) → v < 2 ^ 64 → w < 2 ^ 64 → less v w < 2 ^ 64
+minus_lt v w h l = omega (arith, and_le_l v (18446744073709551615 - w))
+
+-- the same for the bits of v without those of both
+one_apart : (x y : ℕ) → x < 2 → y < 2 → eqb (bit_xor x (bit_and x y)) 1 ≡ (eqb x 1 && not (eqb y 1))
+one_apart zero zero p q = refl
+one_apart zero (suc zero) p q = refl
+one_apart (suc zero) zero p q = refl
+one_apart (suc zero) (suc zero) p q = refl
+one_apart (suc (suc x)) y p q = absurd (omega arith)
+one_apart zero (suc (suc y)) p q = absurd (omega arith)
+one_apart (suc zero) (suc (suc y)) p q = absurd (omega arith)
+
+pub bit_less : (v w k : ℕ) → bit (bit_xor v (bit_and v w)) k ≡ (bit v k && not (bit w k))
+unfolding bit
+bit_less v w k =
+    rw (xor_shr v (bit_and v w) k, and_shr v w k, xor_mod (v / 2 ^ k) (bit_and (v / 2 ^ k) (w / 2 ^ k)) 1, and_mod (v / 2 ^ k) (w / 2 ^ k) 1)
+    (one_apart (v / 2 ^ k % 2) (w / 2 ^ k % 2) (omega arith) (omega arith))
+
+pub less_lt : (v w : ℕ) → v < 2 ^ 64 → bit_xor v (bit_and v w) < 2 ^ 64
+less_lt v w h = xor_lt 64 v (bit_and v w) h (omega (arith, and_le_l v w))
 
 -- a word that has a page
 pub used_true : (w : ℕ) → used w ≡ true → 0 < w

@@ -129,11 +129,11 @@ module _
         (λ (h : 64 ≤ j + count_trailing_zeros 64 v).
         let f = bit_high 64 (get_or ws i 0) (j + count_trailing_zeros 64 v) word h in
         let g : bit v (count_trailing_zeros 64 v) ≡ false = ap (λ (x : ℕ). bit x (count_trailing_zeros 64 v)) e ∙ bit_shr (get_or ws i 0) j (count_trailing_zeros 64 v) ∙ f in
-        absurd (both_ways (bit v (count_trailing_zeros 64 v)) g (tz_hit v p small)))
+        absurd (both_ways (bit v (count_trailing_zeros 64 v)) g (tz_hit 64 v p small)))
         (cases_lt (j + count_trailing_zeros 64 v) 64)
 
     pub hit : 0 < v → holds ws (64 * i + j + 1 + count_trailing_zeros 64 v) ≡ true
-    hit p = bit_there (count_trailing_zeros 64 v) (hit_inside p) ∙ tz_hit v p small
+    hit p = bit_there (count_trailing_zeros 64 v) (hit_inside p) ∙ tz_hit 64 v p small
 
     clear : (n : ℕ) → 64 * i + j < n → n ≤ 64 * i + 64 → bit v (n - (64 * i + j + 1)) ≡ false → holds ws n ≡ false
     clear n p q f =
@@ -141,7 +141,7 @@ module _
         subst (λ (m : ℕ). holds ws m ≡ false) s (bit_there (n - (64 * i + j + 1)) (omega arith) ∙ f)
 
     pub before : 0 < v → (n : ℕ) → 64 * i + j < n → n < 64 * i + j + 1 + count_trailing_zeros 64 v → holds ws n ≡ false
-    before p n q r = clear n q (omega (arith, hit_inside p)) (tz_low v (n - (64 * i + j + 1)) p small (omega arith))
+    before p n q r = clear n q (omega (arith, hit_inside p)) (tz_low 64 v (n - (64 * i + j + 1)) (omega arith))
 
     pub nothing : v ≡ 0 → (n : ℕ) → 64 * i + j < n → n ≤ 64 * i + 64 → holds ws n ≡ false
     nothing z n q r = clear n q r (rw z (bit_none (n - (64 * i + j + 1))))
