@@ -18,7 +18,7 @@ use Rattle.stands.proofs.Layers.{some_inj, none_some, has_within}
 use Rattle.pool.specs.Needs.{needed, Covers}
 use Rattle.pool.specs.Leaving.{Empty, put_back}
 use Rattle.pool.specs.Meaning.{Fine}
-use Rattle.pool.specs.Saving.{Clean, Saved}
+use Rattle.pool.specs.Saving.{Clean, CleanAt, Cleaned, Saved}
 use Rattle.pool.proofs.Frames.{needed_set}
 use Rattle.pool.proofs.Opens.{needed_at, set_none_sub, back_is}
 
@@ -109,6 +109,45 @@ clean_more fs fs' k c before here =
     below_more (λ j. (f : Frame) → HasAt fs' j f → f.changed ≡ false) k
     (λ j l f h. before j l f (sym (c.others j (λ e. omega (arith, e, l))) ∙ h))
     here
+
+-- the frames before k are those at the beginning, each unchanged now, and the others are as they were
+pub record Cleaning (fs fs' : List (Option Frame)) (k : ℕ) : Type 0 where
+  pub done : (j : ℕ) → j < k → CleanAt fs fs' j
+  pub left : (j : ℕ) → k ≤ j → get_or fs' j None ≡ get_or fs j None
+
+pub cleaning_none : (fs : List (Option Frame)) → Cleaning fs fs 0
+cleaning_none fs = record { done = λ j l. absurd (omega arith); left = λ j l. refl }
+
+clean_kept : (fs gs hs : List (Option Frame)) (j : ℕ) → get_or hs j None ≡ get_or gs j None → CleanAt fs gs j → CleanAt fs hs j
+clean_kept fs gs hs j e c = record {
+  none = λ h. e ∙ c.none h;
+  some = λ f h. (let w = c.some f h in (w.0, (e ∙ w.1.0, w.1.1)));
+}
+
+clean_now : (fs gs hs : List (Option Frame)) (k : ℕ) → get_or gs k None ≡ get_or fs k None → Clean gs hs k → CleanAt fs hs k
+clean_now fs gs hs k e s = record {
+  none = λ h. ap (λ (x : List (Option Frame)). get_or x k None) (s.none (e ∙ h)) ∙ e ∙ h;
+  some = λ f h. (let w = s.some f (e ∙ h) in
+      (w.0, (ap (λ (x : List (Option Frame)). get_or x k None) w.1.0 ∙ get_or-set_same gs k (Some w.0) None (has_within gs k f (e ∙ h)), w.1.1)));
+}
+
+-- one frame more
+pub cleaning_more : (fs gs hs : List (Option Frame)) (k : ℕ) → Cleaning fs gs k → Clean gs hs k → Cleaning fs hs (k + 1)
+cleaning_more fs gs hs k c s = record {
+  done = below_more (λ j. CleanAt fs hs j) k
+      (λ j l. clean_kept fs gs hs j (s.others j (λ e. omega (arith, e, l))) (c.done j l))
+      (clean_now fs gs hs k (c.left k (omega arith)) s);
+  left = λ j l. s.others j (λ e. omega (arith, e, l)) ∙ c.left j (omega arith);
+}
+
+pub cleaning_over : (fs gs : List (Option Frame)) (k : ℕ) → length fs ≤ k → Cleaning fs gs k → Cleaned fs gs
+cleaning_over fs gs k h c j = ⊎_elim
+    (λ (l : j < k). c.done j l)
+    (λ (l : k ≤ j). record {
+      none = λ e. c.left j l ∙ e;
+      some = λ f e. absurd (omega (arith, has_within fs j f e));
+    })
+    (cases_lt j k)
 
 -- a pool's tie stays where the store means the same pages and the policy was told the same number
 pub tied_same : (ts : List Descriptor) (slots page : List ℕ) (ps ps' : List Page) (fs : List (Option Frame)) (known told told' count : ℕ) → ps' ≡ ps → told' ≡ told → Fine ts slots page ps fs known told count → Fine ts slots page ps' fs known told' count

@@ -12,6 +12,15 @@ pub record Clean (fs fs' : List (Option Frame)) (k : ℕ) : Type 0 where
   pub none : slice_index_or fs k None ≡ None → fs' ≡ fs
   pub some : (f : Frame) → HasAt fs k f → (g : Frame) × ((fs' ≡ slice_set fs k (Some g)) × (Is g f.page false f.cells × (g.needs ≡ f.needs)))
 
+-- frame k after is that before, unchanged now
+pub record CleanAt (fs fs' : List (Option Frame)) (k : ℕ) : Type 0 where
+  pub none : slice_index_or fs k None ≡ None → slice_index_or fs' k None ≡ None
+  pub some : (f : Frame) → HasAt fs k f → (g : Frame) × (HasAt fs' k g × (Is g f.page false f.cells × (g.needs ≡ f.needs)))
+
+-- the frames after are those before, each unchanged now
+abbrev pub Cleaned : List (Option Frame) → List (Option Frame) → Type 0
+Cleaned fs fs' = (k : ℕ) → CleanAt fs fs' k
+
 -- all is saved: the store has what is stood for, and nothing of it changed
 pub record Saved (ts : List Descriptor) (slots page : List ℕ) (ps : List Page) (fs : List (Option Frame)) (ps' : List Page) (fs' : List (Option Frame)) (known told count : ℕ) : Type 0 where
   pub fine : Fine ts slots page ps' fs' known told count

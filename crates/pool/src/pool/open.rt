@@ -9,6 +9,7 @@ ghost use Rattle.pool.specs.Looking.{is_in};
 ghost use Rattle.pool.specs.Needs.{Covers};
 ghost use Rattle.pool.specs.Opening.{Incoming};
 ghost use Rattle.pool.specs.Pools.{Fixed, OpenedTo};
+ghost use Rattle.stands.specs.Frames.{Lacks};
 
 use crate::pool::Pool;
 use fault::{Cause, Fault, Place};
@@ -76,6 +77,19 @@ impl<S: Store, V: Policy> Pool<S, V> {
         Ok(free)
     }
 
+    // Reads page n, which no frame holds, and brings it into one. No part of `open` in the program either, so that a page in
+    // a frame is found without room for the bytes of one that is not.
+    #[inline(never)]
+    fn bring(&mut self, n: u64, standing: &PageSet) -> Result<usize, Fault>
+        requires { Lacks self.old.frames n }
+        ensures opened { is_page (S.Store.pages self.old.store) n ≡ true → OpenedTo (holds standing.now.words) n self.old self.new result }
+        ensures course { is_page (S.Store.pages self.old.store) n ≡ true → Opens (holds standing.now.words) n self.old self.new result }
+        ensures fixed { Fixed self.old self.new }
+    {
+        let bytes = fetch(&mut self.store, n, self.pages, &self.catalogue)?;
+        self.enter(n, &bytes, standing)
+    }
+
     // Sees that page n is in a frame, and answers which. Pages that cursors stand on keep their slots.
     pub fn open(&mut self, n: u64, standing: &PageSet) -> Result<usize, Fault>
         ensures opened { is_page (S.Store.pages self.old.store) n ≡ true → Covers self.old.table.slot_of (holds standing.now.words) → OpenedTo (holds standing.now.words) n self.old self.new result }
@@ -86,7 +100,6 @@ impl<S: Store, V: Policy> Pool<S, V> {
             self.policy.touch(held);
             return Ok(held);
         }
-        let bytes = fetch(&mut self.store, n, self.pages, &self.catalogue)?;
-        self.enter(n, &bytes, standing)
+        self.bring(n, standing)
     }
 }

@@ -8,7 +8,7 @@ use Rattle.pool.specs.Leaving.{put_back}
 use Rattle.pool.specs.Meaning.{Fine}
 use Rattle.pool.specs.Needs.{needed, Covers}
 use Rattle.pool.proofs.Bringing.{spare_new}
-use Rattle.pool.proofs.Saves.{held_below, covers_same, clean_some, clean_none, saved_one, all_saved, clean_more}
+use Rattle.pool.proofs.Saves.{held_below, covers_same, clean_some, clean_none, saved_one, all_saved, clean_more, cleaning_more, cleaning_over}
 use Rattle.pool.proofs.pool.Pool.save.Goals as goal
 use Rattle.pool.proofs.pool.Pool.save.Goals.{in-Some, in_default}
 
@@ -41,6 +41,7 @@ loop-held-preserved g c =
             spare_new fs e.count k _ (held_below fs e.count k f v.8 here) v.8,
             covers_same e.table.slot_of fs k f _ here refl v.9,
             length-set fs k _ ∙ v.10,
+            cleaning_more e.frames fs _ k v.11 clean,
           ))
       | in_default w ↦ (
           let same = set-get_or fs k c.held-item.result in
@@ -57,6 +58,7 @@ loop-held-preserved g c =
             v.8,
             v.9,
             v.10,
+            cleaning_more e.frames fs fs k v.11 none,
           ))
     ]
 
@@ -67,6 +69,11 @@ returns-clause-saved g c =
     let fs = c.loop-held.held-items in
     all_saved (types e.catalogue) e.table.slot_of e.table.page_of e.pages (g.V.Policy.frames e.policy) e.count (g.S.Store.pages e.store) e.frames (g.S.Store.pages c.loop-held.self.1.0) fs v.5 v.6
     (λ j f h. v.7 j (omega (arith, has_within fs j f h)) f h)
+
+pub returns-clause-frames : goal.returns-clause-frames
+returns-clause-frames g c =
+    let e = c.args.self.now in
+    cleaning_over e.frames c.loop-held.held-items c.loop-held.held-index (omega arith) c.loop-held.invariant.11
 
 pub invariant_of-self-clause-sized : goal.invariant_of-self-clause-sized
 invariant_of-self-clause-sized g c = c.loop-held.invariant.10

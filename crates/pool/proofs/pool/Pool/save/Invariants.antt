@@ -5,6 +5,7 @@ use Rattle.stands.specs.Frames.{HasAt, stands_for}
 use Rattle.pool.specs.Meaning.{Fine}
 use Rattle.pool.specs.Needs.{needed, Covers}
 use Rattle.pool.specs.Pools.{stood_for}
+use Rattle.pool.proofs.Saves.{Cleaning}
 use Rattle.pool.proofs.pool.Pool.save.Given as goal
 
 abbrev pub invariant-loop-held : goal.invariant-loop-held
@@ -23,3 +24,4 @@ invariant-loop-held g l =
     × ((k : ℕ) → e.count ≤ k → is_some (get_or fs k None) ≡ false)
     × Covers e.table.slot_of (needed fs)
     × (length fs ≡ 16)
+    × Cleaning e.frames fs l.held-index
