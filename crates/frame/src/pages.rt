@@ -38,7 +38,7 @@ pub fn linked_pages(cells: &[u64; 64], catalogue: &ClosedCatalogue) -> PageSet
 pub fn framed_pages(cells: &[u64; 64], table: &AddressTable, catalogue: &ClosedCatalogue) -> PageSet
     ensures { (n : ℕ) → holds result.words n ≡ (links_to (types catalogue.now) (unswizzled (types catalogue.now) table.now.page_of cells.now) n && is_page n) }
 {
-    // not the linked pages of the page of the store: its links are where these are, and would be found twice
+    // one walk: as `linked_pages` of the page in the store, this would look for the links of the page twice
     let links = link_cells(cells, catalogue);
     let mut pages = PageSet::new();
     for (link, number) in links.iter().zip(cells) {

@@ -115,9 +115,6 @@ pub record Cleaning (fs fs' : List (Option Frame)) (k : ℕ) : Type 0 where
   pub done : (j : ℕ) → j < k → CleanAt fs fs' j
   pub left : (j : ℕ) → k ≤ j → get_or fs' j None ≡ get_or fs j None
 
-pub cleaning_none : (fs : List (Option Frame)) → Cleaning fs fs 0
-cleaning_none fs = record { done = λ j l. absurd (omega arith); left = λ j l. refl }
-
 clean_kept : (fs gs hs : List (Option Frame)) (j : ℕ) → get_or hs j None ≡ get_or gs j None → CleanAt fs gs j → CleanAt fs hs j
 clean_kept fs gs hs j e c = record {
   none = λ h. e ∙ c.none h;

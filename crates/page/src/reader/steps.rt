@@ -38,7 +38,8 @@ impl<'a, 'k> Reader<'a, 'k> {
         })
     }
 
-    // The next part; none for ever after the last, and a fault again for ever, so a reader is no iterator that ends.
+    // The next part; none for ever after the last, and a fault again for ever, so a reader is no iterator that ends. A call
+    // for each part would cost as much as the part.
     #[inline]
     pub fn step(&mut self) -> Option<Result<Part<'a>, Fault>>
         ensures part { seen result ≡ next_part (remaining self.old) }

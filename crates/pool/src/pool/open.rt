@@ -77,8 +77,8 @@ impl<S: Store, V: Policy> Pool<S, V> {
         Ok(free)
     }
 
-    // Reads page n, which no frame holds, and brings it into one. No part of `open` in the program either, so that a page in
-    // a frame is found without room for the bytes of one that is not.
+    // Reads page n, which no frame holds, and brings it into one. Never inlined, since `open` would then clear room for the
+    // bytes of a page also where a frame holds it.
     #[inline(never)]
     fn bring(&mut self, n: u64, standing: &PageSet) -> Result<usize, Fault>
         requires { Lacks self.old.frames n }
